@@ -131,6 +131,13 @@ def splits(keys):
     return [split.seconds - without.seconds]
 
 
+def merges(keys):
+    """The seconds of a merge of two ranges with so many keys each."""
+    without, merged = at_sizes(lambda times: scripts.one_merge(keys, times), [0, 1])
+    assert merged.out.splitlines()[-1] == b"merged 2 3 4", merged.out[-80:]
+    return [merged.seconds - without.seconds]
+
+
 def routes(ranges):
     """The seconds of 200,000 routes over so many ranges that splits made."""
     without, routed = at_sizes(lambda times: scripts.many_ranges(ranges, times), [0, 200_000])
@@ -176,6 +183,7 @@ SIZES = [
       ("time of a Get of each key, in order", "s", 2.3)]),
     ("puts after a checkpoint of 20,000 keys, and then a load", 10_000, loads_behind, [("time of a load", "s", 2.3)]),
     ("keys of 100 bytes, and a split in their middle", 20_000, splits, [TIME]),
+    ("keys of 100 bytes in each of two ranges, and a merge of them", 20_000, merges, [TIME]),
     ("ranges that splits made, and 200,000 routes", 500, routes, [("time of the routes", "s", 1.3)]),
 ]
 

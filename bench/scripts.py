@@ -102,9 +102,9 @@ def large_values(count, loads):
     return transactions(count, f"{LARGE_VALUE}*x", loads=loads)
 
 
-def puts(count, of):
-    """Transactions of one put of 100 bytes, on keys that come again after so many."""
-    return settled(lambda number: [f"user 1 tx 1 1 +k{number % of:06}=100*x"], count, TRANSACTIONS_PER_SETTLE)
+def puts(count, of, of_range=1, first=0):
+    """Transactions of one put of 100 bytes, on keys from the first on that come again after so many."""
+    return settled(lambda number: [f"user 1 tx 1 {of_range} +k{first + number % of:06}=100*x"], count, TRANSACTIONS_PER_SETTLE)
 
 
 def checkpoints(keys, parts, loads=0):
@@ -133,6 +133,18 @@ def one_split(keys, splits):
     yield from (f"setup 3 1 {TARGET} 64", "moment 1", "assign 1 1 1000000", "settle")
     yield from puts(keys, keys)
     yield from [f"split 1 1 k{keys // 2:06}", "settle", "decide 3", "settle", "decide 1", "settle", "decide 2", "settle"] * splits
+
+
+def one_merge(keys, merges):
+    """Two ranges that a split of an empty one made, with so many keys of 100 bytes each, which are then merged, so many times, never or
+    once. The logs are the extents 5 and 6, and row data 7 and 8."""
+    yield from (f"setup 3 1 {TARGET} 64", "moment 1", "assign 1 1 1000000", "settle")
+    yield from (f"split 1 1 k{keys:06}", "settle", "decide 2", "settle", "decide 1", "settle")
+    yield from ("assign 2 1 1000000", "assign 3 1 1000000", "settle")
+    yield from puts(keys, keys, 2)
+    yield from puts(keys, keys, 3, keys)
+    seals = (line for extent in (5, 7, 6, 8) for line in (f"decide {extent}", "settle"))
+    yield from ["merge 1 2 3", "settle", *seals] * merges
 
 
 def metadata_of(number):

@@ -13,7 +13,7 @@ ghost use Rattle.model_partition.specs.Range.{RangeState};
 ghost use Rattle.model_histories.specs.ServedTables.{IsAtLine, ServesAt};
 ghost use Rattle.model_histories.specs.ServerRun.{log_name};
 ghost use Rattle.model_histories.specs.TableContents.{AllTellRightly};
-ghost use Rattle.model_partition.specs.Servers.{ArePlain, ServerCell, ShowsLoad, server_checkpoints, server_gives_up, server_loads, server_splits, server_takes};
+ghost use Rattle.model_partition.specs.Servers.{ArePlain, ServerCell, ShowsLoad, server_checkpoints, server_gives_up, server_loads, server_merges, server_splits, server_takes};
 ghost use Rattle.model_histories.specs.Story.{KeepsOrder};
 ghost use Rattle.model_partition.specs.Cluster.{AreUnsplit, Cluster, first_cluster, cluster_after, cluster_after_all};
 ghost use Rattle.laws_clusters.specs.Orders.{ComesOfStreams};
@@ -22,7 +22,7 @@ ghost use Rattle.laws_servers.specs.Sending.{ByMoves, MaySendAll};
 
 /// A server sends nothing but what servers may ask of nodes and of the manager, and what no node takes. Of loaded tables it
 /// shows at most one, of the table that the range has when the answer comes that confirms its generation; where it gives up, or
-/// begins a checkpoint or a split, none. This is so of any servers, whatever splits are under way at them.
+/// begins a checkpoint, a split or a merge, none. This is so of any servers, whatever splits and merges are under way at them.
 pub fn servers_take_steps()
     ensures sent { (servers : List ServerCell) (s : ℕ) (p : Packet) → MaySendAll (server_takes servers s p).packets }
     ensures shown { (servers : List ServerCell) (s : ℕ) (p : Packet) →
@@ -33,6 +33,8 @@ pub fn servers_take_steps()
     ensures shown_of_checkpoints { (servers : List ServerCell) (s range : ℕ) (combine : Bool) → ArePlain (server_checkpoints servers s range combine).notes }
     ensures sent_by_splits { (servers : List ServerCell) (s range : ℕ) (key : List ℕ) → MaySendAll (server_splits servers s range key).packets }
     ensures shown_of_splits { (servers : List ServerCell) (s range : ℕ) (key : List ℕ) → ArePlain (server_splits servers s range key).notes }
+    ensures sent_by_merges { (servers : List ServerCell) (s left right : ℕ) → MaySendAll (server_merges servers s left right).packets }
+    ensures shown_of_merges { (servers : List ServerCell) (s left right : ℕ) → ArePlain (server_merges servers s left right).notes }
 {}
 
 /// Whatever servers and the map do, each event is some moves of the stream layer.
@@ -40,9 +42,9 @@ pub fn runs_are_moves()
     ensures { (c : Cluster) (event : Event) → ByMoves c.stream_layer (cluster_after c event).stream_layer }
 {}
 
-/// Whatever is asked, delivered, lost or repeated, whoever stops, comes back, gives up, makes checkpoints or splits a range, and
-/// whoever is assigned one, all that is shown of an extent agrees (`agree`), and what is acknowledged is kept where it was
-/// acknowledged (`kept`). Where no range is split what is observed is honest: each table that is shown is also that of a line of
+/// Whatever is asked, delivered, lost or repeated, whoever stops, comes back, gives up, makes checkpoints, splits a range or merges two,
+/// and whoever is assigned one, all that is shown of an extent agrees (`agree`), and what is acknowledged is kept where it was
+/// acknowledged (`kept`). Where no range is split and no two are merged what is observed is honest: each table that is shown is also that of a line of
 /// transactions that has every one that was acknowledged under a lower generation, in order, each once (`honest`). There the servers
 /// are those that what comes to them makes, and the streams that they see keep their order (`ordered`), so that the laws of servers
 /// over any streams are laws of runs: the tables of a range that is served, its indexes among them, are the table of the line that

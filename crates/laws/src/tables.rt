@@ -42,8 +42,8 @@ pub fn tables_replay()
     ensures families { (layer_at : Place → Layer) (h : List Note) → IsFamily layer_at h → Replays h }
 {}
 
-/// Whatever comes to servers, from whomever and however often, wherever they stop, start, give up, make checkpoints or split ranges, where
-/// the map gives the number of a range to neither of the two that a split makes: if what they see of the metadata and the log of a range keeps its order, no generation is confirmed twice, loads of that log end in the order of
+/// Whatever comes to servers that merge no ranges, from whomever and however often, wherever they stop, start, give up, make checkpoints or split ranges, where
+/// the map gives the number of a range to neither of the two that a split makes, and its streams are built of no other's: if what they see of the metadata and the log of a range keeps its order, no generation is confirmed twice, loads of that log end in the order of
 /// their generations, and what reads were shown and appends were answered for keeps its bytes, then what they load replays, where the
 /// map assigns the first range alone (`law`). The tables of any range that is served, its indexes among them, are at any moment the
 /// table of the line that ends at its log position, whatever other ranges its server holds, also while it is split (`steps`), and whichever copies of the log

@@ -16,12 +16,12 @@ use Rattle.model_partition.specs.declared.range_entry.RangeEntry.{RangeEntry}
 use Rattle.model_partition.specs.Map.{MapState, range_at}
 use Rattle.model_partition.specs.MapRules.{assign_fault, assign_rule, renew_fault, renew_rule, map_rule}
 use Rattle.model_partition.specs.Partition.{IsSound}
-use Rattle.model_partition.specs.Servers.{ServersOutcome, told_moment, server_takes, server_gives_up, server_checkpoints, server_splits, server_stops, server_starts}
+use Rattle.model_partition.specs.Servers.{ServersOutcome, told_moment, server_takes, server_gives_up, server_checkpoints, server_splits, server_merges, server_stops, server_starts}
 use Rattle.model_partition.specs.Cluster.{Cluster, servers_perform, map_performs, map_performs_if, map_takes, delivered_to, delivers, stops, restarts, shows_moment, assigns, renews, map_stops, map_starts, cluster_after, cluster_after_all, first_cluster}
 use Rattle.model_partition.proofs.Replaying.{first_sound}
 use Rattle.laws_streams.proofs.Choices.{Each}
 use Rattle.laws_servers.specs.Sending.{AllFromServers}
-use Rattle.laws_servers.proofs.ServerSteps.{IsStill, server_takes_shows, server_gives_up_tidy, server_checkpoints_tidy, server_splits_tidy, server_stops_still, server_starts_still}
+use Rattle.laws_servers.proofs.ServerSteps.{IsStill, server_takes_shows, server_gives_up_tidy, server_checkpoints_tidy, server_splits_tidy, server_merges_tidy, server_stops_still, server_starts_still}
 use Rattle.laws_clusters.proofs.Leases.{Lease, lease_in, KeepsTo, EntryKeeps, MapKeeps}
 use Rattle.laws_clusters.proofs.LeaseRules.{RuleKeeps, assign_rule_keeps, renew_rule_keeps, map_rule_keeps}
 use Rattle.laws_clusters.proofs.Senders.{none_from_map}
@@ -179,7 +179,7 @@ comes_keep c (Renew range server until) k = renews_keep c range server until k
 comes_keep c (Moment now) k = moment_keeps c now k
 comes_keep c (Checkpoint server range combine) k = servers_keep c (server_checkpoints c.servers server range combine) (server_checkpoints_tidy c.servers server range combine).0 k
 comes_keep c (Split server range key) k = servers_keep c (server_splits c.servers server range key) (server_splits_tidy c.servers server range key).0 k
-comes_keep c (Merge server left right) k = happens_keep c (Merge server left right) k
+comes_keep c (Merge server left right) k = servers_keep c (server_merges c.servers server left right) (server_merges_tidy c.servers server left right).0 k
 
 -- ---- runs
 

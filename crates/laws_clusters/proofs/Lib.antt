@@ -31,4 +31,8 @@ pub mod RowSteps
 pub mod StreamOrders
 pub mod ServerRules
 pub mod ServerPackets
+pub mod AbsentStreams
+pub mod NewStreams
+pub mod BuiltAnswers
+pub mod FirstNumber
 pub mod Theorem

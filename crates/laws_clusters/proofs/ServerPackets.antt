@@ -32,8 +32,8 @@ use Rattle.wire.specs.declared.actor.ReqNo.TheVariants as requests
 use Rattle.client.specs.Client.{awaits}
 use Rattle.model_partition.specs.Cluster.{Cluster, servers_perform}
 use Rattle.model_partition.specs.Getting.{get_rule}
-use Rattle.model_partition.specs.Range.{RangeState, RangeOutcome, request, used, refuses, waiting_out}
-use Rattle.model_partition.specs.Server.{ServerState, ServerOutcome, range_of, awaiting, rests, sends_one, set_split, split_of, stepped, stepped_alone, new_range, users_of, is_newer, assign_rule, told_by_map, map_rule, transacts_in, gets_in, table_rule, answer_in, answer_of, numbered_rule, taken_rule, has_numbers, server_rule, given_up, gives_up, picked, give_up_rule, busy_if, checkpoint_refused, checkpoints_in, server_checkpoint}
+use Rattle.model_partition.specs.Range.{RangeState, RangeOutcome, request, refuses, waiting_out}
+use Rattle.model_partition.specs.Server.{ServerState, ServerOutcome, range_of, awaiting, rests, sends_one, merge_with, stepped, stepped_alone, new_range, users_of, is_newer, assigned, assign_rule, told_by_map, map_rule, transacts_in, gets_in, table_rule, answer_in, answer_of, numbered_rule, taken_rule, has_numbers, server_rule, given_up, gives_up, picked, give_up_rule, busy_if, has_jobs, checkpoint_refused, checkpoints_in, server_checkpoint}
 use Rattle.model_histories.specs.ServerRun.{ServerRun, RangeEffect, Begins, Does, Rests, Takes, GivesUp, Checkpoints, first_history, with_effect, with_outcome, after_event, told_effect, map_effect, transact_effect, table_effect, answer_effect, awaited_effect, numbered_effect, packet_effect, server_effect, cell_effect}
 use Rattle.model_partition.specs.Serving.{transact_rule}
 use Rattle.model_histories.specs.StreamActions.{StreamAction, transact_actions, answer_actions}
@@ -52,7 +52,9 @@ use Rattle.laws_servers.proofs.RangeSteps.{transact_tidy, get_tidy, checkpoint_t
 use Rattle.laws_clusters.proofs.RangeSteps as going
 use Rattle.laws_loads.proofs.Entries.{entry_set, set_twice}
 use Rattle.laws_server_runs.proofs.Actions.{same_test}
-use Rattle.laws_server_runs.proofs.Unsplit.{stepped_is, given_up_is, unawaited, transact_effect_is, get_effect_is, answer_effect_is, unawaited_effect, not_refused, HaveNoSplits}
+use Rattle.laws_server_runs.proofs.StatesKept.{opened}
+use Rattle.laws_server_runs.proofs.Unmerged.{assigned_unmerged}
+use Rattle.laws_server_runs.proofs.Unsplit.{HasNoJob, HaveNoJobs, stepped_is, answer_is, given_up_is, unawaited, transact_effect_is, get_effect_is, answer_effect_is, unawaited_effect, not_refused}
 use Rattle.laws_server_runs.proofs.RangeLists.{inserted_here, inserted_other, ascending_inserted, left_here, left_other, ascending_left}
 use Rattle.laws_clusters.proofs.OtherEvents.{told_nothing, refuses_stands, renew_stands, rule_done, run_done, rests_quiet, quiet_stands, picks_stand, still_runs, StandsAfter, nobody_stands, cell_stands}
 use Rattle.laws_clusters.proofs.RangeRules.{Done, both, transact_done, get_done, give_up_done, checkpoint_done, answer_done, assigned_done}
@@ -77,7 +79,13 @@ begun_here : (y : ServerRun) (s range : ℕ) → (with_effect s y (Begins range)
 begun_here y s range = ap (λ b. if b && (range == range) then first_history else y.history s range) (same_test s) ∙ ap (λ b. if b then first_history else y.history s range) (same_test range)
 
 module _ (generation : ℕ → ℕ) (plenty : (g n : ℕ) → (i : ℕ) × (n ≤ i) × (generation i ≡ g)) (nodes target : ℕ) where
-  module _ (c : Cluster) (y : ServerRun) (x : Standing generation nodes target c y) (s : ℕ) (cell : ServerCell) (st : ServerState) (at : entry_at c.servers s ≡ Some cell) (is : cell.state ≡ Some st) (none : st.splits ≡ []) where
+  module _ (c : Cluster) (y : ServerRun) (x : Standing generation nodes target c y) (s : ℕ) (cell : ServerCell) (st : ServerState) (at : entry_at c.servers s ≡ Some cell) (is : cell.state ≡ Some st) (jobless : HasNoJob st) where
+    none : st.splits ≡ []
+    none = jobless.0
+
+    whole : st.merges ≡ []
+    whole = jobless.1
+
     abbrev w : StreamSystem
     w = here generation nodes target x.moves
 
@@ -165,15 +173,15 @@ module _ (generation : ℕ → ℕ) (plenty : (g n : ℕ) → (i : ℕ) × (n �
           others = λ j apart. inserted_other st.ranges range next j apart;
         }
 
-        taken_good : Good (Begins range) (record { after = record { context = used st.context; ranges = insert_entry nat_cmp st.ranges range next; splits = set_split st.splits range None }; packets = users_of st.context known ++ open_packet st.context.server range (generation i) (request st.context) ∷ []; notes = [] })
+        taken_good : Good (Begins range) (record { after = opened st range (generation i) until; packets = users_of st.context known ++ open_packet st.context.server range (generation i) (request st.context) ∷ []; notes = [] })
         taken_good =
             let a : Side = going.m_after generation nodes target x.moves range z i st.context o k.rule.goes in
             let b : Side = going.l_after generation nodes target x.moves range z i st.context o k.rule.goes in
-            let opened : Packet = open_packet st.context.server range (generation i) (request st.context) in
+            let opening : Packet = open_packet st.context.server range (generation i) (request st.context) in
             let rows : steps.RowsAfter st range o (users_of st.context known ++ o.packets) =
             (λ n is_next. (
               λ q waits. absurd (let next_is : Some next ≡ Some n = is_next in let same : next ≡ n = cc in let none : false ≡ true = ap (λ (u : RangeState). awaits u.rows.job q) same ∙ waits in cc),
-              in_both n (users_of st.context known) (opened ∷ []) (users_in st.context n known) (inl tt, tt),
+              in_both n (users_of st.context known) (opening ∷ []) (users_in st.context n known) (inl tt, tt),
             )) in
             let senders : AllFromRanges (users_of st.context known ++ o.packets) = all_both (users_of st.context known) o.packets (users_all st.context known) ((st.context.server, refl, inl refl), tt) in
             steps.stepped generation nodes target c y x s cell st at is range counted i (fresh_alone i free) begun near (fresh_recorded i ((begun.history s range).append kinds.Metadata) free) (fresh_began i ((begun.history s range).append kinds.Log) free) o [] k
@@ -181,7 +189,11 @@ module _ (generation : ℕ → ℕ) (plenty : (g n : ℕ) → (i : ℕ) × (n �
             (asked_joined generation range w i (both generation nodes target c y x range counted) o.after a b (users_of st.context known) o.packets
             (asked_of_both generation range w i (both generation nodes target c y x range counted) o.after a b k.rule.goes.sent_by.apart (users_of st.context known) (users_plain (log_of range) b.stand b.sent known)) k.rule.goes.asked)
             (all_of_ranges (users_of st.context known ++ o.packets) senders)
-            (record { context = used st.context; ranges = insert_entry nat_cmp st.ranges range next; splits = set_split st.splits range None }) refl inserted
+            (opened st range (generation i) until) refl inserted
+
+      -- the server begins the load, under this generation, and is left so
+      abbrev loads : Option RangeState → ServerState → ℕ → ServerOutcome
+      loads known after n = record { after = after; packets = users_of st.context known ++ open_packet st.context.server range n (request st.context) ∷ []; notes = [] }
 
       assign_good : (known : Option RangeState) (g until : ℕ) → Good (if is_newer g known then Begins range else Rests) (assign_rule st range g until known)
       assign_good known g until = go (is_newer g known)
@@ -189,13 +201,10 @@ module _ (generation : ℕ → ℕ) (plenty : (g n : ℕ) → (i : ℕ) × (n �
           fresh : (i : ℕ) × (x.bound ≤ i) × (generation i ≡ g)
           fresh = plenty g x.bound
 
-          go : (b : Bool) →
-              Good (if b then Begins range else Rests)
-              (if b then record { after = record { context = used st.context; ranges = insert_entry nat_cmp st.ranges range (new_range st.context range g until); splits = set_split st.splits range None }; packets = users_of st.context known ++ open_packet st.context.server range g (request st.context) ∷ []; notes = [] } else rests st)
+          go : (b : Bool) → Good (if b then Begins range else Rests) (if b then loads known (assigned (opened st range g until) (merge_with st.merges range)) g else rests st)
           go true =
-              subst
-              (λ n. Good (Begins range) (record { after = record { context = used st.context; ranges = insert_entry nat_cmp st.ranges range (new_range st.context range n until); splits = set_split st.splits range None }; packets = users_of st.context known ++ open_packet st.context.server range n (request st.context) ∷ []; notes = [] }))
-              fresh.2 (taken_good known until fresh.0 fresh.1)
+              subst (λ z. Good (Begins range) (loads known z g)) (sym (assigned_unmerged st whole (opened st range g until) range))
+              (subst (λ n. Good (Begins range) (loads known (opened st range n until) n)) fresh.2 (taken_good known until fresh.0 fresh.1))
           go false = rests_good
 
     -- ---- a range that the server has
@@ -243,17 +252,20 @@ module _ (generation : ℕ → ℕ) (plenty : (g n : ℕ) → (i : ℕ) × (n �
           from (inl (inr same)) stream q waits = inl (r, found, record { job = same.0; group = same.1; stream = stream })
           from (inr fresh) stream q waits = inr (fresh q waits)
 
-      step_good : (o : RangeOutcome) (actions : List StreamAction) → Done generation nodes target c y x range held.counted i st.context (view_at range y s) o actions → AllFromRanges o.packets → LeavesRows st.context r.rows o →
-          Good (Does range r.load.generation actions) (stepped st range o)
-      step_good o actions k senders left =
-          subst (Good (Does range r.load.generation actions)) (sym (stepped_is st none range o))
-          (subst (λ g. Good (Does range g actions) (stepped_alone st range o)) (sym h.follows.under)
+      alone_good : (o : RangeOutcome) (actions : List StreamAction) → Done generation nodes target c y x range held.counted i st.context (view_at range y s) o actions → AllFromRanges o.packets → LeavesRows st.context r.rows o →
+          Good (Does range r.load.generation actions) (stepped_alone st range o)
+      alone_good o actions k senders left =
+          subst (λ g. Good (Does range g actions) (stepped_alone st range o)) (sym h.follows.under)
           (done_good range held.counted i alone h.record_append h.append o actions k senders (rows_after o actions k left) (stepped_alone st range o).after refl
           (record {
             ascending = ascending_left st.ranges range o.after run.ascending;
             here = λ u there. sym (left_here st.ranges range r o.after run.ascending found) ∙ there;
             others = λ j apart. left_other st.ranges range o.after j apart;
-          })))
+          }))
+
+      step_good : (o : RangeOutcome) (actions : List StreamAction) → Done generation nodes target c y x range held.counted i st.context (view_at range y s) o actions → AllFromRanges o.packets → LeavesRows st.context r.rows o →
+          Good (Does range r.load.generation actions) (stepped st range o)
+      step_good o actions k senders left = subst (Good (Does range r.load.generation actions)) (sym (stepped_is st none whole range o)) (alone_good o actions k senders left)
 
       transact_held : (p : Packet) (changes : List Change) (q : ReqNo) → Good (transact_effect st p range changes q (Some r)) (transacts_in st p range changes q (Some r))
       transact_held p changes q =
@@ -271,19 +283,26 @@ module _ (generation : ℕ → ℕ) (plenty : (g n : ℕ) → (i : ℕ) × (n �
           Good (answer_effect st p v range (Some r)) (answer_in st p v range (Some r))
       answer_held p there gives v number =
           subst (λ e. Good e (answer_in st p v range (Some r))) (sym (answer_effect_is st none p v range r))
-          (step_good (answer_rule st.context r v p.body) (answer_actions st.context r v p.body (answer_rule st.context r v p.body))
+          (subst (Good (Does range r.load.generation actions)) (sym (answer_is st none whole p v range r))
+          (alone_good o actions
           (answer_done generation nodes target c y x range held.counted i st.context (by range held.counted) (view_at range y s) (seen_here range) r h past rows_asked p.from s p.body there gives v number) (answer_shows st.context r v p.body).0
-          (answer_leaves st.context r v p.body))
+          (answer_leaves st.context r v p.body)))
+        where
+          o : RangeOutcome
+          o = answer_rule st.context r v p.body
+
+          actions : List StreamAction
+          actions = answer_actions st.context r v p.body o
 
       give_up_held : (o : ServerOutcome) → gives_up st range (Some r) ≡ Some o → Good Rests o
       give_up_held o e =
-          let same : (if has_numbers st.context then given_up st range (split_of st.splits range) (give_up_all st.context r) else rests st) ≡ o = cc in
+          let same : (if has_numbers st.context then given_up st range (merge_with st.merges range) (give_up_all st.context r) else rests st) ≡ o = cc in
           subst (Good Rests) same (go (has_numbers st.context))
         where
-          go : (b : Bool) → Good Rests (if b then given_up st range (split_of st.splits range) (give_up_all st.context r) else rests st)
+          go : (b : Bool) → Good Rests (if b then given_up st range (merge_with st.merges range) (give_up_all st.context r) else rests st)
           go true =
-              subst (Good Rests) (stepped_is st none range (give_up_all st.context r) ∙ sym (given_up_is st none range (give_up_all st.context r)))
-              (step_good (give_up_all st.context r) [] (give_up_done generation nodes target c y x range held.counted i st.context (by range held.counted) (view_at range y s) (seen_here range) r h past) (give_up_tidy st.context r).0
+              subst (Good Rests) (sym (given_up_is st none whole range (give_up_all st.context r)))
+              (alone_good (give_up_all st.context r) [] (give_up_done generation nodes target c y x range held.counted i st.context (by range held.counted) (view_at range y s) (seen_here range) r h past) (give_up_tidy st.context r).0
               (give_up_leaves st.context r unread))
           go false = rests_good
 
@@ -321,7 +340,7 @@ module _ (generation : ℕ → ℕ) (plenty : (g n : ℕ) → (i : ℕ) × (n �
     awaited_good : (p : Packet) → Contains w.post (packet p.from (Server s) p.body) → is_answerer p.from p.body ≡ true → (v : ReqNo) → answered_number p.body ≡ Some v → (o : Option ℕ) →
         Good (awaited_effect st p v o) (answer_of st p v o)
     awaited_good p there gives v number None =
-        subst (λ e. Good e (answer_of st p v None)) (sym (unawaited_effect st none p v)) (subst (Good Rests) (sym (unawaited st none p v)) rests_good)
+        subst (λ e. Good e (answer_of st p v None)) (sym (unawaited_effect st none p v)) (subst (Good Rests) (sym (unawaited st none whole p v)) rests_good)
     awaited_good p there gives v number (Some range) = answer_good p there gives v number range (range_of st.ranges range) refl
 
     numbered_good : (p : Packet) → Contains w.post (packet p.from (Server s) p.body) → (o : Option ReqNo) → answered_number p.body ≡ o → Good (numbered_effect st p o) (numbered_rule st p o)
@@ -386,16 +405,16 @@ module _ (generation : ℕ → ℕ) (plenty : (g n : ℕ) → (i : ℕ) × (n �
     checkpoint_good : (range : ℕ) (combine : Bool) → Good Rests (server_checkpoint st range combine)
     checkpoint_good range combine = by_range (range_of st.ranges range) refl
       where
-        splits : Bool
-        splits = is_some (split_of st.splits range)
+        jobs : Bool
+        jobs = has_jobs st range
 
-        by_fault : (r : RangeState) → range_of st.ranges range ≡ Some r → (fault : Option Refusal) → busy_if splits (checkpoint_fault r) ≡ fault → Good Rests (if is_some fault then rests st else checkpoints_in st range combine (Some r))
-        by_fault r found None may = checkpoint_held range r found combine (not_refused splits (checkpoint_fault r) may)
+        by_fault : (r : RangeState) → range_of st.ranges range ≡ Some r → (fault : Option Refusal) → busy_if jobs (checkpoint_fault r) ≡ fault → Good Rests (if is_some fault then rests st else checkpoints_in st range combine (Some r))
+        by_fault r found None may = checkpoint_held range r found combine (not_refused jobs (checkpoint_fault r) may)
         by_fault r found (Some why) refused = rests_good
 
-        by_range : (known : Option RangeState) → range_of st.ranges range ≡ known → Good Rests (if is_some (checkpoint_refused splits known) then rests st else checkpoints_in st range combine known)
+        by_range : (known : Option RangeState) → range_of st.ranges range ≡ known → Good Rests (if is_some (checkpoint_refused jobs known) then rests st else checkpoints_in st range combine known)
         by_range None found = rests_good
-        by_range (Some r) found = by_fault r found (busy_if splits (checkpoint_fault r)) refl
+        by_range (Some r) found = by_fault r found (busy_if jobs (checkpoint_fault r)) refl
 
   -- ---- events
 
@@ -407,7 +426,7 @@ module _ (generation : ℕ → ℕ) (plenty : (g n : ℕ) → (i : ℕ) × (n �
       (cell_stands generation nodes target c y s (λ z. z) (λ z n k past. past) (λ z st found up. still_runs c.servers s z st found up) x)
 
   -- a server takes a packet
-  module _ (c : Cluster) (y : ServerRun) (x : Standing generation nodes target c y) (unsplit : HaveNoSplits c.servers) (s : ℕ) (p : Packet) (there : Contains c.stream_layer.post p) (to : p.to ≡ Server s) where
+  module _ (c : Cluster) (y : ServerRun) (x : Standing generation nodes target c y) (unsplit : HaveNoJobs c.servers) (s : ℕ) (p : Packet) (there : Contains c.stream_layer.post p) (to : p.to ≡ Server s) where
     -- a cluster after this, and the run where servers do this with streams
     abbrev Took : RangeEffect → ServersOutcome → ServersOutcome → Type 0
     Took effect o seen = IsLaid (with_outcome (with_effect s y effect) seen) →
@@ -430,7 +449,7 @@ module _ (generation : ℕ → ℕ) (plenty : (g n : ℕ) → (i : ℕ) × (n �
         subst (λ l. Took (cell_effect p (entry_at l s)) (server_takes c.servers s p) (server_takes l s p)) x.cells (cell_takes_so (entry_at c.servers s) refl)
 
   -- a server is told to give up
-  module _ (c : Cluster) (y : ServerRun) (x : Standing generation nodes target c y) (unsplit : HaveNoSplits c.servers) (s range : ℕ) (pick : Nodes) where
+  module _ (c : Cluster) (y : ServerRun) (x : Standing generation nodes target c y) (unsplit : HaveNoJobs c.servers) (s range : ℕ) (pick : Nodes) where
     abbrev GaveUp : ServersOutcome → ServersOutcome → Type 0
     GaveUp o seen = IsLaid (with_outcome y seen) → Standing generation nodes target (servers_perform c o) (with_outcome y seen)
 
@@ -475,7 +494,7 @@ module _ (generation : ℕ → ℕ) (plenty : (g n : ℕ) → (i : ℕ) × (n �
     gives_up_stands = subst (λ l. GaveUp (server_gives_up c.servers s range pick) (server_gives_up l s range pick)) x.cells (cell_gives (entry_at c.servers s) refl)
 
   -- a server is told to make a checkpoint
-  module _ (c : Cluster) (y : ServerRun) (x : Standing generation nodes target c y) (unsplit : HaveNoSplits c.servers) (s range : ℕ) (combine : Bool) where
+  module _ (c : Cluster) (y : ServerRun) (x : Standing generation nodes target c y) (unsplit : HaveNoJobs c.servers) (s range : ℕ) (combine : Bool) where
     abbrev Made : ServersOutcome → ServersOutcome → Type 0
     Made o seen = IsLaid (with_outcome y seen) → Standing generation nodes target (servers_perform c o) (with_outcome y seen)
 

@@ -1,5 +1,5 @@
--- Whole runs with servers in which no range is split: the servers see streams that keep their order, and so what they show of tables
--- replays.
+-- Whole runs with servers in which no range is split and no two are merged: the servers see streams that keep their order, and so what
+-- they show of tables replays.
 use Rattle.std.proofs.Common.{◌≡◌, ℕ, zero, suc, ◌+◌, Bool, true, false, nat_lt, List, [], ◌∷◌, ◌++◌, map, Option, Some, None, Contains, slice_get, refl, sym, ap, ◌∙◌, subst, inl, inr, arith, if◌then◌else◌}
 use Rattle.block_types.specs.declared.record.Nodes.{Nodes}
 use Rattle.wire.specs.declared.actor.ActorId.{ActorId}
@@ -35,7 +35,7 @@ use Rattle.laws_ranges.specs.Serves.{Apart, metadata_of, log_of}
 use Rattle.laws_streams.proofs.Choices.{contains_get}
 use Rattle.laws_server_runs.proofs.LoadedWithin.{loaded_within}
 use Rattle.laws_server_runs.proofs.Theorem.{unsplit_replays, unsplit_served}
-use Rattle.laws_server_runs.proofs.Unsplit.{HaveNoSplits, unsplit as no_splits}
+use Rattle.laws_server_runs.proofs.Unsplit.{HaveNoJobs, no_jobs}
 use Rattle.laws_servers.proofs.EventsAsMoves.{led_agrees, led_keeps}
 use Rattle.laws_clusters.specs.Orders.{ComesOfStreams}
 use Rattle.laws_clusters.specs.ServerEvents.{packet_events, delivery_events, stop_events, start_events, server_events, server_events_after, servers_of_run}
@@ -173,9 +173,9 @@ module _ (nodes target batch count : ℕ) where
     abbrev y : ServerRun
     y = run coming
 
-    -- no server splits a range
-    none : HaveNoSplits c.servers
-    none = subst HaveNoSplits (sym x.stands.cells) (no_splits batch count coming x.unsplit)
+    -- no server splits a range, nor merges two
+    none : HaveNoJobs c.servers
+    none = subst HaveNoJobs (sym x.stands.cells) (no_jobs batch count coming x.unsplit)
 
     -- nothing comes to servers
     aside : (d : Cluster) → Stands d y → StandsWith d coming
@@ -255,7 +255,7 @@ module _ (nodes target batch count : ℕ) where
         let unsplit : AreUnsplit (Checkpoints s range combine ∷ coming) = (tt, x.unsplit) in
         record { stands = checkpoints_stand generation_at plenty nodes target c y x.stands none s range combine (run_laid (Checkpoints s range combine ∷ coming) unsplit); first = first; unsplit = unsplit }
 
-    -- whatever comes, but for a split
+    -- whatever comes, but for a split or a merge
     comes_stands : (event : Event) → clusters.IsUnsplit event → StandsWith (cluster_after c event) (server_events c event ++ coming)
     comes_stands (Submit user to body) is = aside _ (happens_stands generation_at nodes target c y x.stands (Submit user to body))
     comes_stands (Deliver number) is = delivers_all number (slice_get c.stream_layer.post number) refl
@@ -268,7 +268,7 @@ module _ (nodes target batch count : ℕ) where
     comes_stands (Moment now) is = moment_all now
     comes_stands (Checkpoint server range combine) is = checkpoints_all server range combine
     comes_stands (Split server range key) is = absurd is
-    comes_stands (Merge server left right) is = aside _ (happens_stands generation_at nodes target c y x.stands (Merge server left right))
+    comes_stands (Merge server left right) is = absurd is
 
   led_stands : (events : List Event) → clusters.AreUnsplit events → (c : Cluster) (coming : List ServerEvent) → StandsWith c coming →
       StandsWith (cluster_after_all c events) (server_events_after c coming events)

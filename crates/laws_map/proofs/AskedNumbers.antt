@@ -39,7 +39,7 @@ entry_set xs zero c d e = absurd cc
 entry_set xs (suc n) c d e = subst (λ k. slice_get (slice_set xs k d) n ≡ Some d) (one_less n) (set_here xs n c d e)
 
 -- and nothing else changes
-entry_other : {A : Type 0} (xs : List A) (s : ℕ) (c d : A) → entry_at xs s ≡ Some c → (t : ℕ) → (t ≡ s → ⊥) → entry_at (slice_set xs (s - 1) d) t ≡ entry_at xs t
+pub entry_other : {A : Type 0} (xs : List A) (s : ℕ) (c d : A) → entry_at xs s ≡ Some c → (t : ℕ) → (t ≡ s → ⊥) → entry_at (slice_set xs (s - 1) d) t ≡ entry_at xs t
 entry_other xs zero c d e t apart = absurd cc
 entry_other xs (suc n) c d e zero apart = refl
 entry_other xs (suc n) c d e (suc m) apart = subst (λ k. slice_get (slice_set xs k d) m ≡ slice_get xs m) (one_less n) (set_elsewhere xs n m d (λ same. apart (ap suc same)))
@@ -152,7 +152,7 @@ mapped f [] n = refl
 mapped f (x ∷ xs) zero = refl
 mapped f (x ∷ xs) (suc n) = mapped f xs n
 
-entry_mapped : {A : Type 0} (f : A → A) (xs : List A) (s : ℕ) → entry_at (map f xs) s ≡ option_map f (entry_at xs s)
+pub entry_mapped : {A : Type 0} (f : A → A) (xs : List A) (s : ℕ) → entry_at (map f xs) s ≡ option_map f (entry_at xs s)
 entry_mapped f xs zero = refl
 entry_mapped f xs (suc n) = mapped f xs n
 

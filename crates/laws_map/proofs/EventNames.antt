@@ -101,7 +101,7 @@ module _ (K : Knowledge) where
   starts_cell s now batch cell (Some server) is n = (subst (StateNames K) (sym is) n, tt)
   starts_cell s now batch cell None is n =
       if_elim (λ (x : ServerCell). StateNames K x.state × AllName K []) (nat_lt (suc cell.session) (2 ^ 64)) _ cell
-      (λ t. (record { ranges = tt; splits = tt; rising = tt }, tt)) (λ f. (subst (StateNames K) (sym is) tt, tt))
+      (λ t. (record { ranges = tt; splits = tt; rising = tt; merges = refl }, tt)) (λ f. (subst (StateNames K) (sym is) tt, tt))
 
   pub servers_start : (servers : List ServerCell) (s now batch : ℕ) → Cells servers → ServersStep (server_starts servers s now batch)
   servers_start servers s now batch all = at_names servers s _ all (λ cell at n. starts_cell s now batch cell cell.state refl n) (entry_at servers s) refl
@@ -191,10 +191,11 @@ module _ (K : MapState → Knowledge) where
 
   -- ---- events
 
-  -- a split that begins is asked for
+  -- a split that begins is asked for, and no merge begins
   abbrev pub AskedIn : Cluster → Event → Type 0
   AskedIn c (Split s range key) =
       (cell : ServerCell) → entry_at c.servers s ≡ Some cell → (st : ServerState) → cell.state ≡ Some st → AsksFor (K c.map) st range key
+  AskedIn c (Merge server left right) = ⊥
   AskedIn c event = Unit {0}
 
   -- what the map does at an event names what it knows then
@@ -273,7 +274,7 @@ module _ (K : MapState → Knowledge) where
     event_goes (Moment now) rules asked = moment_keeps c now n
     event_goes (Checkpoint server range combine) rules asked = servers_names (K c.map) c _ (servers_checkpoint (K c.map) laws c.servers server range combine n.servers) n
     event_goes (Split server range key) rules asked = servers_names (K c.map) c _ (servers_split (K c.map) laws c.servers server range key asked n.servers) n
-    event_goes (Merge server left right) rules asked = layer_keeps (Merge server left right)
+    event_goes (Merge server left right) rules asked = absurd asked
 
   -- whatever happens, what is named is known to the map as it is then
   pub event_keeps : (c : Cluster) → MapLaws K c.map → Known c → (event : Event) → AskedIn c event → Known (cluster_after c event)

@@ -24,7 +24,7 @@ use Rattle.model_partition.specs.Range.{request}
 use Rattle.model_partition.specs.Splits.{new_split, begin_packet}
 use Rattle.model_partition.specs.Server.{ServerState, ServerOutcome, server_split, picked, give_up_rule}
 use Rattle.model_partition.specs.Servers.{ServerCell, CellOutcome, ServersOutcome, cell_rests, cell_takes, cell_given_up, cell_gives_up, cell_checkpoints, cell_splits, cell_stops, cell_starts, at_server, server_splits, first_server, first_servers}
-use Rattle.model_partition.specs.Cluster.{Cluster, servers_perform, map_performs, map_performs_if, delivered_to, delivers, stops, restarts, cluster_after, cluster_after_all, first_cluster}
+use Rattle.model_partition.specs.Cluster.{IsUnmerged, AreUnmerged, Cluster, servers_perform, map_performs, map_performs_if, delivered_to, delivers, stops, restarts, cluster_after, cluster_after_all, first_cluster}
 use Rattle.laws_streams.proofs.Choices.{contains_get}
 use Rattle.laws_map.specs.Naming.{Each, Knowledge, PacketNames, StateNames, Names}
 use Rattle.laws_map.specs.Generations.{EntryKnows, IsWithin, HasAsked, knowing, within, AreOnce, AreWithinMap}
@@ -180,22 +180,22 @@ module _ (K : Knowledge) (laws : Laws K) where
     split_on : (s range : ℕ) (key : List ℕ) → ((cell : ServerCell) → entry_at c.servers s ≡ Some cell → (st : ServerState) → cell.state ≡ Some st → AsksFor K st range key) → On (servers_perform c (server_splits c.servers s range key))
     split_on s range key asked = at_on c.servers s (λ cell. cell_splits cell range key cell.state) (λ cell at. splits_on s cell range key cell.state refl (state_at s cell at) (asked cell at)) (entry_at c.servers s) refl
 
-    -- of each event but a split
-    pub other_on : (event : Event) → ((s range : ℕ) (key : List ℕ) → event ≡ Split s range key → ⊥) → On (cluster_after c event)
-    other_on (Submit user to body) other = rests_on
-    other_on (Deliver number) other = delivers_on number (slice_get c.stream_layer.post number) refl
-    other_on (Stop actor call keep) other = stops_on actor call keep
-    other_on (Restart actor) other = restarts_on actor
-    other_on (Decide e) other = rests_on
-    other_on (GiveUp server range pick) other =
+    -- of each event but a split or a merge
+    pub other_on : (event : Event) → ((s range : ℕ) (key : List ℕ) → event ≡ Split s range key → ⊥) → IsUnmerged event → On (cluster_after c event)
+    other_on (Submit user to body) other unmerged = rests_on
+    other_on (Deliver number) other unmerged = delivers_on number (slice_get c.stream_layer.post number) refl
+    other_on (Stop actor call keep) other unmerged = stops_on actor call keep
+    other_on (Restart actor) other unmerged = restarts_on actor
+    other_on (Decide e) other unmerged = rests_on
+    other_on (GiveUp server range pick) other unmerged =
         at_on c.servers server (λ cell. cell_gives_up cell range pick cell.state) (λ cell at. gives_up_on server cell range pick cell.state refl (state_at server cell at)) (entry_at c.servers server) refl
-    other_on (Assign range server until) other = if_elim On c.map_cell.up _ _ (λ up. does_if_on (assign_fault server c.now (range_at c.map.ranges range)) _) (λ up. rests_on)
-    other_on (Renew range server until) other = if_elim On c.map_cell.up _ _ (λ up. does_if_on (renew_fault server (range_at c.map.ranges range)) _) (λ up. rests_on)
-    other_on (Moment now) other = if_elim On (nat_lt now c.now) _ _ (λ back. rests_on) (λ on. moments_on c.servers now)
-    other_on (Checkpoint server range combine) other =
+    other_on (Assign range server until) other unmerged = if_elim On c.map_cell.up _ _ (λ up. does_if_on (assign_fault server c.now (range_at c.map.ranges range)) _) (λ up. rests_on)
+    other_on (Renew range server until) other unmerged = if_elim On c.map_cell.up _ _ (λ up. does_if_on (renew_fault server (range_at c.map.ranges range)) _) (λ up. rests_on)
+    other_on (Moment now) other unmerged = if_elim On (nat_lt now c.now) _ _ (λ back. rests_on) (λ on. moments_on c.servers now)
+    other_on (Checkpoint server range combine) other unmerged =
         at_on c.servers server (λ cell. cell_checkpoints cell range combine cell.state) (λ cell at. checkpoints_on server cell range combine cell.state refl (state_at server cell at)) (entry_at c.servers server) refl
-    other_on (Split server range key) other = absurd (other server range key refl)
-    other_on (Merge server left right) other = rests_on
+    other_on (Split server range key) other unmerged = absurd (other server range key refl)
+    other_on (Merge server left right) other unmerged = absurd unmerged
 
 -- ---- the invariant
 
@@ -210,22 +210,23 @@ pub record Governs (c : Cluster) : Type 0 where
   pub past : (q : ReqNo) (range generation : ℕ) (key : List ℕ) → HasAsked asks q range generation key → IsPast c.servers q
   pub themselves : AreThemselves c.servers
 
-unfoldable pub other_governs : (c : Cluster) (event : Event) → ((s range : ℕ) (key : List ℕ) → event ≡ Split s range key → ⊥) → Governs c → Governs (cluster_after c event)
-other_governs c event other g =
-    let on = other_on (within c.map g.asks) (within_laws c.map g.sound g.asks g.once) c g.names event other in
+unfoldable pub other_governs : (c : Cluster) (event : Event) → ((s range : ℕ) (key : List ℕ) → event ≡ Split s range key → ⊥) → IsUnmerged event → Governs c → Governs (cluster_after c event)
+other_governs c event other unmerged g =
+    let on = other_on (within c.map g.asks) (within_laws c.map g.sound g.asks g.once) c g.names event other unmerged in
     record {
       sound = event_sound c event g.sound;
       asks = g.asks;
       sent = λ p there. stays_in_post c p (g.sent p there) event;
-      names = event_keeps (λ m. within m g.asks) c (map_laws c.map g.sound g.asks g.once) g.names event (nothing event other);
+      names = event_keeps (λ m. within m g.asks) c (map_laws c.map g.sound g.asks g.once) g.names event (nothing event other unmerged);
       once = g.once;
       past = λ q range generation key h. on.past q (g.past q range generation key h);
       themselves = on.themselves g.themselves;
     }
   where
-    nothing : (event : Event) → ((s range : ℕ) (key : List ℕ) → event ≡ Split s range key → ⊥) → AskedIn (λ m. within m g.asks) c event
-    nothing (Split s range key) other = absurd (other s range key refl)
-    nothing event other = tt
+    nothing : (event : Event) → ((s range : ℕ) (key : List ℕ) → event ≡ Split s range key → ⊥) → IsUnmerged event → AskedIn (λ m. within m g.asks) c event
+    nothing (Split s range key) other unmerged = absurd (other s range key refl)
+    nothing (Merge server left right) other unmerged = absurd unmerged
+    nothing event other unmerged = tt
 
 -- ---- a split begins
 
@@ -356,23 +357,23 @@ module _ (c : Cluster) (s range : ℕ) (key : List ℕ) (g : Governs c) where
 
 -- ---- runs
 
-unfoldable pub event_governs : (c : Cluster) (event : Event) → Governs c → Governs (cluster_after c event)
-event_governs c (Split s range key) g = split_governs c s range key g
-event_governs c (Submit user to body) g = other_governs c (Submit user to body) (λ s range key e. absurd cc) g
-event_governs c (Deliver number) g = other_governs c (Deliver number) (λ s range key e. absurd cc) g
-event_governs c (Stop actor call keep) g = other_governs c (Stop actor call keep) (λ s range key e. absurd cc) g
-event_governs c (Restart actor) g = other_governs c (Restart actor) (λ s range key e. absurd cc) g
-event_governs c (Decide e) g = other_governs c (Decide e) (λ s range key e. absurd cc) g
-event_governs c (GiveUp server range pick) g = other_governs c (GiveUp server range pick) (λ s range key e. absurd cc) g
-event_governs c (Assign range server until) g = other_governs c (Assign range server until) (λ s range key e. absurd cc) g
-event_governs c (Renew range server until) g = other_governs c (Renew range server until) (λ s range key e. absurd cc) g
-event_governs c (Moment now) g = other_governs c (Moment now) (λ s range key e. absurd cc) g
-event_governs c (Checkpoint server range combine) g = other_governs c (Checkpoint server range combine) (λ s range key e. absurd cc) g
-event_governs c (Merge server left right) g = other_governs c (Merge server left right) (λ s range key e. absurd cc) g
+unfoldable pub event_governs : (c : Cluster) (event : Event) → IsUnmerged event → Governs c → Governs (cluster_after c event)
+event_governs c (Split s range key) unmerged g = split_governs c s range key g
+event_governs c (Submit user to body) unmerged g = other_governs c (Submit user to body) (λ s range key e. absurd cc) tt g
+event_governs c (Deliver number) unmerged g = other_governs c (Deliver number) (λ s range key e. absurd cc) tt g
+event_governs c (Stop actor call keep) unmerged g = other_governs c (Stop actor call keep) (λ s range key e. absurd cc) tt g
+event_governs c (Restart actor) unmerged g = other_governs c (Restart actor) (λ s range key e. absurd cc) tt g
+event_governs c (Decide e) unmerged g = other_governs c (Decide e) (λ s range key e. absurd cc) tt g
+event_governs c (GiveUp server range pick) unmerged g = other_governs c (GiveUp server range pick) (λ s range key e. absurd cc) tt g
+event_governs c (Assign range server until) unmerged g = other_governs c (Assign range server until) (λ s range key e. absurd cc) tt g
+event_governs c (Renew range server until) unmerged g = other_governs c (Renew range server until) (λ s range key e. absurd cc) tt g
+event_governs c (Moment now) unmerged g = other_governs c (Moment now) (λ s range key e. absurd cc) tt g
+event_governs c (Checkpoint server range combine) unmerged g = other_governs c (Checkpoint server range combine) (λ s range key e. absurd cc) tt g
+event_governs c (Merge server left right) unmerged g = absurd unmerged
 
-unfoldable pub all_govern : (events : List Event) (c : Cluster) → Governs c → Governs (cluster_after_all c events)
-all_govern [] c g = g
-all_govern (event ∷ events) c g = all_govern events (cluster_after c event) (event_governs c event g)
+unfoldable pub all_govern : (events : List Event) → AreUnmerged events → (c : Cluster) → Governs c → Governs (cluster_after_all c events)
+all_govern [] are c g = g
+all_govern (event ∷ events) are c g = all_govern events are.1 (cluster_after c event) (event_governs c event are.0 g)
 
 -- the first servers, from a number on
 first_themselves : (batch k n : ℕ) (j : ℕ) (cell : ServerCell) → slice_get (first_servers batch k n) j ≡ Some cell → IsItself (k + j) cell
@@ -383,7 +384,7 @@ first_themselves batch k (suc n) zero cell at =
     subst (IsItself (k + 0)) same (subst (λ m. IsItself m (first_server batch k)) (omega arith) own)
 first_themselves batch k (suc n) (suc j) cell at = subst (λ m. IsItself m cell) (omega arith) (first_themselves batch (suc k) n j cell at)
 
-first_are_themselves : (batch n : ℕ) → AreThemselves (first_servers batch 1 n)
+pub first_are_themselves : (batch n : ℕ) → AreThemselves (first_servers batch 1 n)
 first_are_themselves batch n zero cell at = absurd cc
 first_are_themselves batch n (suc j) cell at = subst (λ m. IsItself m cell) (omega arith) (first_themselves batch 1 n j cell at)
 
@@ -406,7 +407,7 @@ first_governs nodes servers target batch = record {
   themselves = first_are_themselves batch servers;
 }
 
--- In every run no generation that packets, servers, splits or the manager's streams name is above that of the range's entry in the map.
-pub run_is_within : (nodes servers target batch : ℕ) (events : List Event) → AreWithinMap (cluster_after_all (first_cluster nodes servers target batch) events)
-run_is_within nodes servers target batch events =
-    let g = all_govern events (first_cluster nodes servers target batch) (first_governs nodes servers target batch) in record { asks = g.asks; sent = g.sent; once = g.once; names = g.names }
+-- In every run without merges no generation that packets, servers, splits or the manager's streams name is above that of the range's entry in the map.
+pub run_is_within : (nodes servers target batch : ℕ) (events : List Event) → AreUnmerged events → AreWithinMap (cluster_after_all (first_cluster nodes servers target batch) events)
+run_is_within nodes servers target batch events are =
+    let g = all_govern events are (first_cluster nodes servers target batch) (first_governs nodes servers target batch) in record { asks = g.asks; sent = g.sent; once = g.once; names = g.names }

@@ -14,7 +14,7 @@ use Rattle.wire.specs.declared.packet.Packet.{Packet}
 use Rattle.wire.specs.declared.refusal.Refusal.{Refusal}
 use Rattle.streams.specs.Streams.{Stream, empty_stream}
 use Rattle.model_streams.specs.declared.event.Event.{Event}
-use Rattle.model_streams.specs.declared.event.Event.TheVariants.{Split}
+use Rattle.model_streams.specs.declared.event.Event.TheVariants.{Split, Merge}
 use Rattle.model_streams.specs.Outcome.{Outcome, silent}
 use Rattle.model_streams.specs.Manager.{first_streams}
 use Rattle.model_streams.proofs.Tests.{if_elim}
@@ -25,7 +25,7 @@ use Rattle.model_partition.specs.Map.{MapState, range_at, range_of_key, halves_a
 use Rattle.model_partition.specs.MapRules.{assign_rule, renew_rule, has_numbers, begin_split_fault, begin_split_taken, begin_split_rule, complete_split_fault, complete_split_taken, complete_split_rule, begin_merge_fault, begin_merge_taken, begin_merge_rule, complete_merge_fault, complete_merge_rule, route_rule, called, told, map_rule}
 use Rattle.model_partition.specs.Partition.{one_if, uses_pending, uses, AreFresh, IsPartition, IsSound}
 use Rattle.model_partition.specs.Servers.{ServerCell, first_servers}
-use Rattle.model_partition.specs.Cluster.{Cluster, cluster_after, cluster_after_all, first_cluster}
+use Rattle.model_partition.specs.Cluster.{IsUnmerged, AreUnmerged, Cluster, cluster_after, cluster_after_all, first_cluster}
 use Rattle.laws_map.specs.Naming.{Each, Knowledge, StateNames}
 use Rattle.laws_map.specs.Numbers.{below, AreGiven}
 use Rattle.laws_map.proofs.Knowing.{Extends}
@@ -240,18 +240,20 @@ module _ (m : MapState) (s : IsSound m) where
 
 -- ---- runs
 
-asked_given : (c : Cluster) (event : Event) → AskedIn given c event
-asked_given c (Split s range key) = λ cell at st is r sent. tt
-asked_given c event = tt
+asked_given : (c : Cluster) (event : Event) → IsUnmerged event → AskedIn given c event
+asked_given c (Split s range key) unmerged = λ cell at st is r sent. tt
+asked_given c (Merge server left right) unmerged = absurd unmerged
+asked_given c event unmerged = tt
 
-all_given : (events : List Event) (c : Cluster) → IsSound c.map → AreGiven c → AreGiven (cluster_after_all c events)
-all_given [] c s n = n
-all_given (event ∷ events) c s n = all_given events (cluster_after c event) (event_sound c event s) (event_keeps given c (given_laws c.map s) n event (asked_given c event))
+all_given : (events : List Event) → AreUnmerged events → (c : Cluster) → IsSound c.map → AreGiven c → AreGiven (cluster_after_all c events)
+all_given [] are c s n = n
+all_given (event ∷ events) are c s n =
+    all_given events are.1 (cluster_after c event) (event_sound c event s) (event_keeps given c (given_laws c.map s) n event (asked_given c event are.0))
 
 -- servers that hold nothing name nothing
 pub first_cells : (K : Knowledge) (batch s servers : ℕ) → Each (λ (cell : ServerCell). StateNames K cell.state) (first_servers batch s servers)
 first_cells K batch s zero = tt
-first_cells K batch s (suc more) = (record { ranges = tt; splits = tt; rising = tt }, first_cells K batch (suc s) more)
+first_cells K batch s (suc more) = (record { ranges = tt; splits = tt; rising = tt; merges = refl }, first_cells K batch (suc s) more)
 
 -- the first streams are those of range 1, under generation 0
 pub first_stream : (range kind : ℕ) (x : Stream) → first_streams range kind ≡ Some x → (range ≡ 1) × (x.fence ≡ 0)
@@ -261,10 +263,10 @@ first_stream range kind x is = go ((range == 1) && nat_le kind 3) refl is
     go true e is = (eqb-true range 1 (and_parts (range == 1) (nat_le kind 3) e).0, sym (ap (λ (z : Stream). z.fence) (same_Some (empty_stream 0) x is)))
     go false e is = absurd cc
 
--- In every run each number of a range that packets, servers, splits or the manager's streams name is one that the map has given.
-pub run_is_given : (nodes servers target batch : ℕ) (events : List Event) → AreGiven (cluster_after_all (first_cluster nodes servers target batch) events)
-run_is_given nodes servers target batch events =
-    all_given events (first_cluster nodes servers target batch) first_is_sound (record {
+-- In every run without merges each number of a range that packets, servers, splits or the manager's streams name is one that the map has given.
+pub run_is_given : (nodes servers target batch : ℕ) (events : List Event) → AreUnmerged events → AreGiven (cluster_after_all (first_cluster nodes servers target batch) events)
+run_is_given nodes servers target batch events are =
+    all_given events are (first_cluster nodes servers target batch) first_is_sound (record {
       post = λ p there. absurd (let less = there.1 in omega (arith, less));
       servers = first_cells (below 2) batch 1 servers;
       catalog = λ range kind x is. (let one = (first_stream range kind x is).0 in omega (arith, one));

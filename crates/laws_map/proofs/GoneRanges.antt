@@ -21,7 +21,7 @@ use Rattle.model_partition.specs.declared.range_entry.RangeEntry.{RangeEntry}
 use Rattle.model_partition.specs.Map.{MapState, range_at, range_of_key, assigned, renewed, dropped_if, drop_pending, begin, halves_at, union_with, union_at}
 use Rattle.model_partition.specs.MapRules.{assign_rule, renew_rule, has_numbers, begin_split_fault, begin_split_taken, begin_split_rule, complete_split_fault, complete_split_taken, complete_split_rule, begin_merge_fault, begin_merge_taken, begin_merge_rule, complete_merge_fault, complete_merge_rule, route_rule, called, told, map_rule}
 use Rattle.model_partition.specs.Partition.{one_if, uses_pending, uses, IsSound}
-use Rattle.model_partition.specs.Cluster.{Cluster, cluster_after, cluster_after_all, first_cluster}
+use Rattle.model_partition.specs.Cluster.{IsUnmerged, AreUnmerged, Cluster, cluster_after, cluster_after_all, first_cluster}
 use Rattle.model_partition.proofs.Numbers.{BeginsNothing, kept, dropped, fewer, used_once, one_begins, split_fewer, merge_fewer}
 use Rattle.laws_streams.proofs.Choices.{contains_get}
 use Rattle.laws_map.specs.Naming.{Each, Knowledge, MapNames, BodyNames, Names}
@@ -286,26 +286,26 @@ module _ (range bound : ℕ) (c : Cluster) (h : BoundsGone range bound c) where
   abbrev g : Governs c
   g = h.governs
 
-  other_bounds : (event : Event) (other : (s k : ℕ) (key : List ℕ) → event ≡ Split s k key → ⊥) → LeavesGone range bound c g event → BoundsGone range bound (cluster_after c event)
+  other_bounds : (event : Event) (other : (s k : ℕ) (key : List ℕ) → event ≡ Split s k key → ⊥) → IsUnmerged event → LeavesGone range bound c g event → BoundsGone range bound (cluster_after c event)
   unfolding other_governs
-  other_bounds event other leaves = record {
-    governs = other_governs c event other g;
-    names = event_upto range bound c g g.asks g.once g.names h.names event leaves (nothing event other);
+  other_bounds event other unmerged leaves = record {
+    governs = other_governs c event other unmerged g;
+    names = event_upto range bound c g g.asks g.once g.names h.names event leaves (nothing event other unmerged);
   }
     where
-      nothing : (event : Event) → ((s k : ℕ) (key : List ℕ) → event ≡ Split s k key → ⊥) → AskedIn (λ a. upto range bound g.asks) c event
-      nothing (Split s k key) other = absurd (other s k key refl)
-      nothing (Submit user to body) other = tt
-      nothing (Deliver number) other = tt
-      nothing (Stop actor call keep) other = tt
-      nothing (Restart actor) other = tt
-      nothing (Decide e) other = tt
-      nothing (GiveUp server k pick) other = tt
-      nothing (Assign k server until) other = tt
-      nothing (Renew k server until) other = tt
-      nothing (Moment now) other = tt
-      nothing (Checkpoint server k combine) other = tt
-      nothing (Merge server left right) other = tt
+      nothing : (event : Event) → ((s k : ℕ) (key : List ℕ) → event ≡ Split s k key → ⊥) → IsUnmerged event → AskedIn (λ a. upto range bound g.asks) c event
+      nothing (Split s k key) other unmerged = absurd (other s k key refl)
+      nothing (Submit user to body) other unmerged = tt
+      nothing (Deliver number) other unmerged = tt
+      nothing (Stop actor call keep) other unmerged = tt
+      nothing (Restart actor) other unmerged = tt
+      nothing (Decide e) other unmerged = tt
+      nothing (GiveUp server k pick) other unmerged = tt
+      nothing (Assign k server until) other unmerged = tt
+      nothing (Renew k server until) other unmerged = tt
+      nothing (Moment now) other unmerged = tt
+      nothing (Checkpoint server k combine) other unmerged = tt
+      nothing (Merge server left right) other unmerged = absurd unmerged
 
   split_bounds : (s k : ℕ) (key : List ℕ) → BoundsGone range bound (cluster_after c (Split s k key))
   unfolding split_governs
@@ -316,25 +316,25 @@ module _ (range bound : ℕ) (c : Cluster) (h : BoundsGone range bound c) where
         (λ cell at st is r sent. asks_now c s k key g cell at st is r sent);
   }
 
-  event_bounds : (event : Event) → LeavesGone range bound c g event → BoundsGone range bound (cluster_after c event)
-  event_bounds (Split s k key) leaves = split_bounds s k key
-  event_bounds (Submit user to body) leaves = other_bounds (Submit user to body) (λ s k key e. absurd cc) leaves
-  event_bounds (Deliver number) leaves = other_bounds (Deliver number) (λ s k key e. absurd cc) leaves
-  event_bounds (Stop actor call keep) leaves = other_bounds (Stop actor call keep) (λ s k key e. absurd cc) leaves
-  event_bounds (Restart actor) leaves = other_bounds (Restart actor) (λ s k key e. absurd cc) leaves
-  event_bounds (Decide e) leaves = other_bounds (Decide e) (λ s k key e. absurd cc) leaves
-  event_bounds (GiveUp server k pick) leaves = other_bounds (GiveUp server k pick) (λ s k key e. absurd cc) leaves
-  event_bounds (Assign k server until) leaves = other_bounds (Assign k server until) (λ s k key e. absurd cc) leaves
-  event_bounds (Renew k server until) leaves = other_bounds (Renew k server until) (λ s k key e. absurd cc) leaves
-  event_bounds (Moment now) leaves = other_bounds (Moment now) (λ s k key e. absurd cc) leaves
-  event_bounds (Checkpoint server k combine) leaves = other_bounds (Checkpoint server k combine) (λ s k key e. absurd cc) leaves
-  event_bounds (Merge server left right) leaves = other_bounds (Merge server left right) (λ s k key e. absurd cc) leaves
+  event_bounds : (event : Event) → IsUnmerged event → LeavesGone range bound c g event → BoundsGone range bound (cluster_after c event)
+  event_bounds (Split s k key) unmerged leaves = split_bounds s k key
+  event_bounds (Submit user to body) unmerged leaves = other_bounds (Submit user to body) (λ s k key e. absurd cc) tt leaves
+  event_bounds (Deliver number) unmerged leaves = other_bounds (Deliver number) (λ s k key e. absurd cc) tt leaves
+  event_bounds (Stop actor call keep) unmerged leaves = other_bounds (Stop actor call keep) (λ s k key e. absurd cc) tt leaves
+  event_bounds (Restart actor) unmerged leaves = other_bounds (Restart actor) (λ s k key e. absurd cc) tt leaves
+  event_bounds (Decide e) unmerged leaves = other_bounds (Decide e) (λ s k key e. absurd cc) tt leaves
+  event_bounds (GiveUp server k pick) unmerged leaves = other_bounds (GiveUp server k pick) (λ s k key e. absurd cc) tt leaves
+  event_bounds (Assign k server until) unmerged leaves = other_bounds (Assign k server until) (λ s k key e. absurd cc) tt leaves
+  event_bounds (Renew k server until) unmerged leaves = other_bounds (Renew k server until) (λ s k key e. absurd cc) tt leaves
+  event_bounds (Moment now) unmerged leaves = other_bounds (Moment now) (λ s k key e. absurd cc) tt leaves
+  event_bounds (Checkpoint server k combine) unmerged leaves = other_bounds (Checkpoint server k combine) (λ s k key e. absurd cc) tt leaves
+  event_bounds (Merge server left right) unmerged leaves = absurd unmerged
 
 -- Once it is gone it stays so, and nothing above the bound is ever named of it.
-pub gone_for_ever : (range bound : ℕ) (events : List Event) (c : Cluster) → BoundsGone range bound c → IsGone range c.map → BoundsGone range bound (cluster_after_all c events) × IsGone range (cluster_after_all c events).map
-gone_for_ever range bound [] c h gone = (h, gone)
-gone_for_ever range bound (event ∷ events) c h gone =
-    gone_for_ever range bound events (cluster_after c event) (event_bounds range bound c h event (leaves_gone range bound c h.governs gone event)) (event_gone range bound c h.governs gone event)
+pub gone_for_ever : (range bound : ℕ) (events : List Event) → AreUnmerged events → (c : Cluster) → BoundsGone range bound c → IsGone range c.map → BoundsGone range bound (cluster_after_all c events) × IsGone range (cluster_after_all c events).map
+gone_for_ever range bound [] are c h gone = (h, gone)
+gone_for_ever range bound (event ∷ events) are c h gone =
+    gone_for_ever range bound events are.1 (cluster_after c event) (event_bounds range bound c h event are.0 (leaves_gone range bound c h.governs gone event)) (event_gone range bound c h.governs gone event)
 
 -- ---- the event at which it goes
 
@@ -378,8 +378,8 @@ module _ (range bound : ℕ) (c : Cluster) (g : Governs c) (given : range < c.ma
   leaves (Merge server left right) gone = tt
 
   -- Where it is gone after an event, nothing is named of it that is above what the map had of it.
-  pub goes_bounded : (event : Event) → IsGone range (cluster_after c event).map → BoundsGone range bound (cluster_after c event)
-  goes_bounded event gone = event_bounds range bound c here event (leaves event gone)
+  pub goes_bounded : (event : Event) → IsUnmerged event → IsGone range (cluster_after c event).map → BoundsGone range bound (cluster_after c event)
+  goes_bounded event unmerged gone = event_bounds range bound c here event unmerged (leaves event gone)
 
 -- ---- runs
 
@@ -389,28 +389,28 @@ upto_of range bound c h = record { asks = h.governs.asks; sent = h.governs.sent;
 -- A range that the map has under a generation, and does not have after the next event, it never has again, and nobody ever names it under a
 -- generation above that one.
 pub run_loses_range : (nodes servers target batch : ℕ) (events : List Event) (event : Event) (later : List Event) (range : ℕ) (x : RangeEntry) →
-    range_at (cluster_after_all (first_cluster nodes servers target batch) events).map.ranges range ≡ Some x →
+    AreUnmerged events → IsUnmerged event → AreUnmerged later → range_at (cluster_after_all (first_cluster nodes servers target batch) events).map.ranges range ≡ Some x →
     IsGone range (cluster_after (cluster_after_all (first_cluster nodes servers target batch) events) event).map →
     IsGone range (cluster_after_all (cluster_after (cluster_after_all (first_cluster nodes servers target batch) events) event) later).map
     × IsUpTo range x.generation (cluster_after_all (cluster_after (cluster_after_all (first_cluster nodes servers target batch) events) event) later)
-run_loses_range nodes servers target batch events event later range x at gone =
+run_loses_range nodes servers target batch events event later range x are is will at gone =
     let c : Cluster = cluster_after_all (first_cluster nodes servers target batch) events in
-    let g : Governs c = all_govern events (first_cluster nodes servers target batch) (first_governs nodes servers target batch) in
-    let b = goes_bounded range x.generation c g (found_given c.map g.sound range x at) (used_at range c.map.ranges x at) (entry_bounds c.map range x at) event gone in
-    let f = gone_for_ever range x.generation later (cluster_after c event) b gone in
+    let g : Governs c = all_govern events are (first_cluster nodes servers target batch) (first_governs nodes servers target batch) in
+    let b = goes_bounded range x.generation c g (found_given c.map g.sound range x at) (used_at range c.map.ranges x at) (entry_bounds c.map range x at) event is gone in
+    let f = gone_for_ever range x.generation later will (cluster_after c event) b gone in
     (f.1, upto_of range x.generation _ f.0)
 
 -- So it is with a range that it was to have, of one under that generation.
 pub run_drops_range : (nodes servers target batch : ℕ) (events : List Event) (event : Event) (later : List Event) (range at : ℕ) (x : RangeEntry) →
-    range_at (cluster_after_all (first_cluster nodes servers target batch) events).map.ranges at ≡ Some x → 1 ≤ uses_pending range x.pending →
+    AreUnmerged events → IsUnmerged event → AreUnmerged later → range_at (cluster_after_all (first_cluster nodes servers target batch) events).map.ranges at ≡ Some x → 1 ≤ uses_pending range x.pending →
     IsGone range (cluster_after (cluster_after_all (first_cluster nodes servers target batch) events) event).map →
     IsGone range (cluster_after_all (cluster_after (cluster_after_all (first_cluster nodes servers target batch) events) event) later).map
     × IsUpTo range x.generation (cluster_after_all (cluster_after (cluster_after_all (first_cluster nodes servers target batch) events) event) later)
-run_drops_range nodes servers target batch events event later range at x found pending gone =
+run_drops_range nodes servers target batch events event later range at x are is will found pending gone =
     let c : Cluster = cluster_after_all (first_cluster nodes servers target batch) events in
-    let g : Governs c = all_govern events (first_cluster nodes servers target batch) (first_governs nodes servers target batch) in
+    let g : Governs c = all_govern events are (first_cluster nodes servers target batch) (first_governs nodes servers target batch) in
     let l = entry_uses range at c.map.ranges x found in
     let used : 1 ≤ uses range c.map.ranges = omega (arith, l, pending) in
-    let b = goes_bounded range x.generation c g (below_next c.map range g.sound.fresh used) used (pending_bounds c.map range at x found pending) event gone in
-    let f = gone_for_ever range x.generation later (cluster_after c event) b gone in
+    let b = goes_bounded range x.generation c g (below_next c.map range g.sound.fresh used) used (pending_bounds c.map range at x found pending) event is gone in
+    let f = gone_for_ever range x.generation later will (cluster_after c event) b gone in
     (f.1, upto_of range x.generation _ f.0)

@@ -184,6 +184,7 @@ module _ (K L : Knowledge) (e : Extends K L) where
     ranges = each_weaker (λ (x : ℕ × RangeState). RangeNames K x.0 x.1) (λ (x : ℕ × RangeState). RangeNames L x.0 x.1) (λ x h. range_on x.0 x.1 h) s.ranges n.ranges;
     splits = each_weaker (λ (x : ℕ × SplitJob). JobNames K x.0 x.1) (λ (x : ℕ × SplitJob). JobNames L x.0 x.1) (λ x h. job_on x.0 x.1 h) s.splits n.splits;
     rising = n.rising;
+    merges = n.merges;
   }
 
   pub state_on : (state : Option ServerState) → StateNames K state → StateNames L state

@@ -3,6 +3,7 @@ pub mod RangeNames
 pub mod Knowing
 pub mod Rising
 pub mod SplitNames
+pub mod Unmerged
 pub mod ServerNames
 pub mod StreamNames
 pub mod EventNames
@@ -17,3 +18,13 @@ pub mod GoneRanges
 pub mod PendingPairs
 pub mod NamedRanges
 pub mod Unassigned
+pub mod QuietClients
+pub mod RangeLoads
+pub mod Lookups
+pub mod SplitLoads
+pub mod LayerOpenings
+pub mod ServerLoads
+pub mod ServerOpenings
+pub mod OneOpening
+pub mod AskedKeys
+pub mod NewNumbers

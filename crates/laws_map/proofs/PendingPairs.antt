@@ -1,4 +1,4 @@
--- In a run in which a range is asked to be split at one key under one generation: the pair that a split was told
+-- Where a range is asked to be split at one key under one generation, as in every run without merges, the pair that a split was told
 -- of is the one that is pending at the range, for as long as the range keeps its generation.
 use Rattle.std.proofs.Common.{◌≡◌, ◌⊎◌, ℕ, suc, ◌+◌, ◌≤◌, ◌<◌, ◌^◌, Bool, true, false, not, ◌||◌, ◌==◌, nat_lt, List, [], ◌∷◌, ◌++◌, map, Option, Some, None, bytes_eq, Contains, refl, sym, ap, ◌∙◌, subst, inl, inr, arith, if◌then◌else◌}
 use Rattle.std.proofs.lemmas.Bool.{eqb-true, eqb-false}
@@ -25,7 +25,7 @@ use Rattle.model_partition.specs.declared.range_entry.RangeEntry.{RangeEntry}
 use Rattle.model_partition.specs.Map.{MapState, range_at, range_of_key, changed_if, with_range, assigned, renewed, is_merge_with, dropped_if, with_pending, assign, is_split_key, halves_at, begin_split, half, halves, split_in, complete_split}
 use Rattle.model_partition.specs.MapRules.{assign_rule, renew_rule, has_numbers, begin_split_fault, begin_split_taken, begin_split_rule, complete_split_fault, complete_split_taken, complete_split_rule, route_rule, called, told, map_rule}
 use Rattle.model_partition.specs.Partition.{one_if, uses_pending, IsSound}
-use Rattle.model_partition.specs.Cluster.{Cluster, cluster_after, cluster_after_all, first_cluster}
+use Rattle.model_partition.specs.Cluster.{IsUnmerged, AreUnmerged, Cluster, cluster_after, cluster_after_all, first_cluster}
 use Rattle.laws_map.specs.Naming.{Each, Knowledge, BodyNames, PacketNames, Names}
 use Rattle.laws_map.specs.Generations.{HasAsked, AreOnce}
 use Rattle.laws_map.specs.Pairs.{AskOneKey, EntryPairs, IsPending, paired, ArePaired}
@@ -33,6 +33,7 @@ use Rattle.laws_map.proofs.Knowing.{each_weaker, Extends}
 use Rattle.laws_map.proofs.SplitNames.{Laws}
 use Rattle.laws_map.proofs.EventNames.{RuleNames, AskedIn, RulesOf, names_on, event_goes}
 use Rattle.laws_map.proofs.PostStays.{stays_in_post}
+use Rattle.laws_map.proofs.AskedKeys.{run_asks_one_key}
 use Rattle.laws_map.proofs.GivenNumbers.{entry_number, found_given, halves_pending, first_cells}
 use Rattle.laws_map.proofs.GoneRanges.{found_knows}
 use Rattle.laws_map.proofs.WithinMaps.{each_map, each_and, HasNot, entry_only, itself}
@@ -392,9 +393,10 @@ module _ (c : Cluster) (g : Governs c) (asks : List Packet) (once : AreOnce asks
 
 -- the same with all that was asked by then
 module _ (c : Cluster) (g : Governs c) (n : Names (paired c.map g.asks) c) where
-  next_pairs : (event : Event) → AskOneKey (cluster_after c event).stream_layer.post → Names (paired (cluster_after c event).map (event_governs c event g).asks) (cluster_after c event)
+  next_pairs : (event : Event) (unmerged : IsUnmerged event) → AskOneKey (cluster_after c event).stream_layer.post →
+      Names (paired (cluster_after c event).map (event_governs c event unmerged g).asks) (cluster_after c event)
   unfolding event_governs other_governs split_governs
-  next_pairs event h = go event h
+  next_pairs event unmerged h = go event unmerged h
     where
       before : (event : Event) → AskOneKey (cluster_after c event).stream_layer.post → AskOneKey c.stream_layer.post
       before event h = one_key c.stream_layer.post (cluster_after c event).stream_layer.post (λ p there. stays_in_post c p there event) h
@@ -402,22 +404,22 @@ module _ (c : Cluster) (g : Governs c) (n : Names (paired c.map g.asks) c) where
       same : (event : Event) → AskOneKey (cluster_after c event).stream_layer.post → AskedIn (λ a. paired a g.asks) c event → Names (paired (cluster_after c event).map g.asks) (cluster_after c event)
       same event h asked = event_pairs c g g.asks g.once (one_key g.asks c.stream_layer.post g.sent (before event h)) n event asked
 
-      go : (event : Event) → AskOneKey (cluster_after c event).stream_layer.post → Names (paired (cluster_after c event).map (event_governs c event g).asks) (cluster_after c event)
-      go (Split s k key) h =
+      go : (event : Event) (unmerged : IsUnmerged event) → AskOneKey (cluster_after c event).stream_layer.post → Names (paired (cluster_after c event).map (event_governs c event unmerged g).asks) (cluster_after c event)
+      go (Split s k key) unmerged h =
           event_pairs c g (asked_now c s k key g) (now_once c s k key g)
-          (one_key (asked_now c s k key g) (cluster_after c (Split s k key)).stream_layer.post (event_governs c (Split s k key) g).sent h)
+          (one_key (asked_now c s k key g) (cluster_after c (Split s k key)).stream_layer.post (event_governs c (Split s k key) unmerged g).sent h)
           (names_on (paired c.map g.asks) (paired c.map (asked_now c s k key g)) (more_pairs c.map g.asks _) c n) (Split s k key) (λ cell at st is r sent. asks_now c s k key g cell at st is r sent)
-      go (Submit user to body) h = same (Submit user to body) h tt
-      go (Deliver number) h = same (Deliver number) h tt
-      go (Stop actor call keep) h = same (Stop actor call keep) h tt
-      go (Restart actor) h = same (Restart actor) h tt
-      go (Decide e) h = same (Decide e) h tt
-      go (GiveUp server k pick) h = same (GiveUp server k pick) h tt
-      go (Assign k server until) h = same (Assign k server until) h tt
-      go (Renew k server until) h = same (Renew k server until) h tt
-      go (Moment now) h = same (Moment now) h tt
-      go (Checkpoint server k combine) h = same (Checkpoint server k combine) h tt
-      go (Merge server left right) h = same (Merge server left right) h tt
+      go (Submit user to body) unmerged h = same (Submit user to body) h tt
+      go (Deliver number) unmerged h = same (Deliver number) h tt
+      go (Stop actor call keep) unmerged h = same (Stop actor call keep) h tt
+      go (Restart actor) unmerged h = same (Restart actor) h tt
+      go (Decide e) unmerged h = same (Decide e) h tt
+      go (GiveUp server k pick) unmerged h = same (GiveUp server k pick) h tt
+      go (Assign k server until) unmerged h = same (Assign k server until) h tt
+      go (Renew k server until) unmerged h = same (Renew k server until) h tt
+      go (Moment now) unmerged h = same (Moment now) h tt
+      go (Checkpoint server k combine) unmerged h = same (Checkpoint server k combine) h tt
+      go (Merge server left right) unmerged h = absurd unmerged
 
 -- ---- runs
 
@@ -425,26 +427,26 @@ all_in_post : (events : List Event) (c : Cluster) (p : Packet) → Contains c.st
 all_in_post [] c p there = there
 all_in_post (event ∷ events) c p there = all_in_post events (cluster_after c event) p (stays_in_post c p there event)
 
-pub all_pairs : (events : List Event) (c : Cluster) (g : Governs c) → AskOneKey (cluster_after_all c events).stream_layer.post → Names (paired c.map g.asks) c →
-    Names (paired (cluster_after_all c events).map (all_govern events c g).asks) (cluster_after_all c events)
+pub all_pairs : (events : List Event) (are : AreUnmerged events) (c : Cluster) (g : Governs c) → AskOneKey (cluster_after_all c events).stream_layer.post → Names (paired c.map g.asks) c →
+    Names (paired (cluster_after_all c events).map (all_govern events are c g).asks) (cluster_after_all c events)
 unfolding all_govern
-all_pairs [] c g h n = n
-all_pairs (event ∷ events) c g h n =
-    all_pairs events (cluster_after c event) (event_governs c event g) h
-    (next_pairs c g n event (one_key (cluster_after c event).stream_layer.post (cluster_after_all c (event ∷ events)).stream_layer.post (λ p there. all_in_post events (cluster_after c event) p there) h))
+all_pairs [] are c g h n = n
+all_pairs (event ∷ events) are c g h n =
+    all_pairs events are.1 (cluster_after c event) (event_governs c event are.0 g) h
+    (next_pairs c g n event are.0 (one_key (cluster_after c event).stream_layer.post (cluster_after_all c (event ∷ events)).stream_layer.post (λ p there. all_in_post events (cluster_after c event) p there) h))
 
--- In every run in which all who ask to split a range under one generation ask for one key: the two numbers that a split has, or was told, are
--- those that are pending at its range, for as long as the map has the range under the generation.
-pub run_is_paired : (nodes servers target batch : ℕ) (events : List Event) → AskOneKey (cluster_after_all (first_cluster nodes servers target batch) events).stream_layer.post →
+-- In every run without merges the two numbers that a split has, or was told, are those that are pending at its range, for as long as the map has
+-- the range under the generation.
+pub run_is_paired : (nodes servers target batch : ℕ) (events : List Event) → AreUnmerged events →
     ArePaired (cluster_after_all (first_cluster nodes servers target batch) events)
-run_is_paired nodes servers target batch events h =
+run_is_paired nodes servers target batch events are =
     let c : Cluster = first_cluster nodes servers target batch in
-    let g : Governs (cluster_after_all c events) = all_govern events c (first_governs nodes servers target batch) in
+    let g : Governs (cluster_after_all c events) = all_govern events are c (first_governs nodes servers target batch) in
     record {
       asks = g.asks;
       sent = g.sent;
       once = g.once;
-      names = all_pairs events c (first_governs nodes servers target batch) h
+      names = all_pairs events are c (first_governs nodes servers target batch) (run_asks_one_key nodes servers target batch events are)
           (record { post = λ p there. absurd (let less = there.1 in omega (arith, less)); servers = first_cells (paired c.map (first_governs nodes servers target batch).asks) batch 1 servers; catalog = λ range kind x is. tt });
     }
 

@@ -12,7 +12,7 @@ use Rattle.model_streams.specs.StreamSystem.{Happens, happens, stops_in, stands_
 use Rattle.model_streams.proofs.Tests.{if_elim}
 use Rattle.model_partition.specs.Map.{MapState, range_at}
 use Rattle.model_partition.specs.MapRules.{assign_fault, renew_fault, map_rule}
-use Rattle.model_partition.specs.Servers.{server_takes, server_gives_up, server_checkpoints, server_splits, server_stops, server_starts}
+use Rattle.model_partition.specs.Servers.{server_takes, server_gives_up, server_checkpoints, server_splits, server_merges, server_stops, server_starts}
 use Rattle.model_partition.specs.Cluster.{Cluster, map_performs, map_performs_if, delivered_to, delivers, stops, restarts, cluster_after}
 use Rattle.laws_streams.proofs.PacketSources.{moved_gains}
 
@@ -73,4 +73,4 @@ module _ (c : Cluster) (p : Packet) (there : Contains c.stream_layer.post p) whe
   stays_in_post (Moment now) = if_elim In (nat_lt now c.now) _ _ (λ back. there) (λ on. there)
   stays_in_post (Checkpoint server range combine) = more (server_checkpoints c.servers server range combine).packets
   stays_in_post (Split server range key) = more (server_splits c.servers server range key).packets
-  stays_in_post (Merge server left right) = layer (Merge server left right)
+  stays_in_post (Merge server left right) = more (server_merges c.servers server left right).packets

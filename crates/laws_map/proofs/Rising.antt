@@ -38,7 +38,7 @@ module _ {A : Type 0} where
       go Greater e rest = (inserted_at (λ k w. x.0 < k) xs n v s.0 (is_over n x.0 e), rest)
 
 -- no other stands under a number above
-not_found : {A : Type 0} (n : ℕ) (xs : List (ℕ × A)) (v : A) → IsAbove n xs → lookup (is_at (nat_cmp n)) xs ≡ Some v → ⊥
+pub not_found : {A : Type 0} (n : ℕ) (xs : List (ℕ × A)) (v : A) → IsAbove n xs → lookup (is_at (nat_cmp n)) xs ≡ Some v → ⊥
 not_found n [] v a is = absurd cc
 not_found n (x ∷ xs) v a is = go (is_eq (nat_cmp n x.0)) refl (λ more. not_found n xs v a.1 more) is
   where

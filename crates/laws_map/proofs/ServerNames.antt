@@ -1,5 +1,7 @@
 -- A step of a server leaves its ranges and their splits with what is known, and asks for that.
-use Rattle.std.proofs.Common.{◌≡◌, ◌≤◌, ℕ, ◌==◌, Bool, true, false, List, [], ◌∷◌, Option, Some, None, is_some, if◌then◌else◌, refl, ap, ◌∙◌, subst, inl, inr}
+use Rattle.std.proofs.Common.{◌≡◌, ◌≤◌, ℕ, ◌==◌, Bool, true, false, List, [], ◌∷◌, ◌++◌, Option, Some, None, is_some, if◌then◌else◌, refl, sym, ap, ◌∙◌, subst, inl, inr}
+use Rattle.std.specs.BTreeMap.{insert_entry}
+use Rattle.std.specs.Ordering.{nat_cmp}
 use Rattle.block_types.specs.declared.record.Nodes.{Nodes}
 use Rattle.wire.specs.declared.actor.ActorId.{ActorId}
 use Rattle.wire.specs.declared.actor.ActorId.TheVariants as actors
@@ -13,17 +15,19 @@ use Rattle.wire.specs.declared.body.Body.{Body}
 use Rattle.wire.specs.declared.body.Body.TheVariants as bodies
 use Rattle.wire.specs.declared.packet.Packet.{Packet}
 use Rattle.wire.specs.declared.transaction.Change.{Change}
+use Rattle.client.specs.Load.{open_packet}
 use Rattle.model_streams.proofs.Tests.{if_elim}
 use Rattle.model_streams.specs.Actors.{is_user}
 use Rattle.model_partition.specs.declared.server_context.ServerContext.{ServerContext}
 use Rattle.model_partition.specs.declared.split_job.SplitJob.{SplitJob}
-use Rattle.model_partition.specs.Range.{RangeState, RangeOutcome, request}
+use Rattle.model_partition.specs.Range.{RangeState, RangeOutcome, request, used}
 use Rattle.model_partition.specs.Serving.{transact_rule}
 use Rattle.model_partition.specs.Getting.{get_rule}
 use Rattle.model_partition.specs.Checkpoints.{checkpoint_rule}
 use Rattle.model_partition.specs.Splits.{SplitStep, new_split, begin_packet, split_rule}
 use Rattle.model_partition.specs.Answering.{answered_number, is_answerer, answer_rule, give_up_all}
-use Rattle.model_partition.specs.Server.{ServerState, ServerOutcome, range_of, set_range, awaiting, rests, split_of, set_split, split_awaiting, split_stepped, counted, stepped_alone, behind_these, ended_with, stepped_splitting, stepped_with, stepped, new_range, users_of, is_newer, assign_rule, renew_rule, map_rule, transacts_in, gets_in, table_rule, answer_in, split_answer_in, split_answer, answer_of, numbered_rule, taken_rule, has_numbers, server_rule, given_up_splitting, given_up, gives_up, picked, give_up_rule, moment_rule, checkpoint_refusal, checkpoints_in, server_checkpoint, split_refusal, splits_in, server_split}
+use Rattle.model_partition.specs.Server.{ServerState, ServerOutcome, range_of, set_range, awaiting, rests, split_of, set_split, split_awaiting, split_stepped, counted, stepped_alone, behind_these, ended_with, stepped_splitting, stepped_with, stepped, new_range, users_of, is_newer, assign_rule, renew_rule, map_rule, transacts_in, gets_in, table_rule, answer_in, split_answer_in, split_answer, answer_of, numbered_rule, taken_rule, has_numbers, server_rule, given_up_splitting, given_up_with, given_up, merge_with, gives_up, picked, give_up_rule, moment_rule, checkpoint_refusal, checkpoints_in, server_checkpoint, split_refusal, splits_in, server_split}
+use Rattle.laws_map.proofs.Unmerged.{stepped_unmerged, given_up_unmerged, assigned_unmerged, answer_unmerged, unawaited_merge}
 use Rattle.laws_map.specs.Naming.{IsRising, AreFor, Knowledge, BodyNames, PacketNames, RangeNames, JobNames, ServerNames}
 use Rattle.laws_map.proofs.ClientNames.{for_both}
 use Rattle.laws_map.proofs.Knowing.{EachAt, found_at, removed_at, put_at, inserted_at, each_both, AllName, are_named}
@@ -107,7 +111,7 @@ module _ (K : Knowledge) where
 
     split_stepped_step : (range : ℕ) (d : ServerContext) (t : SplitStep) → s.context.count ≤ d.count → Step K range d t → ServerStep s (split_stepped s range t)
     split_stepped_step range d t less h = record {
-      names = record { ranges = ranges_set s.ranges range t.range n.ranges h.range; splits = splits_set s.splits range t.job n.splits h.job; rising = splits_rise s.splits range t.job n.rising };
+      names = record { ranges = ranges_set s.ranges range t.range n.ranges h.range; splits = splits_set s.splits range t.job n.splits h.job; rising = splits_rise s.splits range t.job n.rising; merges = n.merges };
       packets = h.packets;
       count = on_and_on s.context.count d.count t.count less h.count;
       server = refl;
@@ -121,7 +125,7 @@ module _ (K : Knowledge) where
 
       alone_step : ServerStep s (stepped_alone s range o)
       alone_step = record {
-        names = record { ranges = ranges_set s.ranges range o.after n.ranges (range_if K range g o.after known good.0); splits = n.splits; rising = n.rising };
+        names = record { ranges = ranges_set s.ranges range o.after n.ranges (range_if K range g o.after known good.0); splits = n.splits; rising = n.rising; merges = n.merges };
         packets = named;
         count = good.2;
         server = refl;
@@ -130,7 +134,7 @@ module _ (K : Knowledge) where
 
       ended_step : ServerStep s (ended_with s range o)
       ended_step = record {
-        names = record { ranges = ranges_set s.ranges range None n.ranges tt; splits = splits_set s.splits range None n.splits tt; rising = splits_rise s.splits range None n.rising };
+        names = record { ranges = ranges_set s.ranges range None n.ranges tt; splits = splits_set s.splits range None n.splits tt; rising = splits_rise s.splits range None n.rising; merges = n.merges };
         packets = named;
         count = good.2;
         server = refl;
@@ -143,7 +147,7 @@ module _ (K : Knowledge) where
           record { names = x.names; packets = each_both (λ (p : Packet). BodyNames K p.body) o.packets t.packets named x.packets; count = x.count; server = refl; session = refl }
 
       stepped_step : ServerStep s (stepped s range o)
-      stepped_step = go (split_of s.splits range) refl
+      stepped_step = subst (ServerStep s) (sym (stepped_unmerged s n.merges range o)) (go (split_of s.splits range) refl)
         where
           by : (job : SplitJob) → JobNames K range job → (a : Option RangeState) → RangeIf K range a → ServerStep s (stepped_splitting s range job o a)
           by job j None h = ended_step
@@ -153,13 +157,16 @@ module _ (K : Knowledge) where
           go None is = alone_step
           go (Some job) is = by job (job_there range job is) o.after (range_if K range g o.after known good.0)
 
-      given_up_step : (x : Option SplitJob) → split_of s.splits range ≡ x → ServerStep s (given_up s range x o)
-      given_up_step None is = alone_step
-      given_up_step (Some job) is = by job (job_there range job is) o.after (range_if K range g o.after known good.0)
+      given_up_step : ServerStep s (given_up s range (merge_with s.merges range) o)
+      given_up_step = subst (ServerStep s) (sym (given_up_unmerged s n.merges range o)) (go (split_of s.splits range) refl)
         where
           by : (job : SplitJob) → JobNames K range job → (a : Option RangeState) → RangeIf K range a → ServerStep s (given_up_splitting s range job o a)
           by job j None h = ended_step
           by job j (Some r) h = behind_step _ (split_gives_up_step K range laws (counted s.context o) r job h j)
+
+          go : (x : Option SplitJob) → split_of s.splits range ≡ x → ServerStep s (given_up_with s range x o)
+          go None is = alone_step
+          go (Some job) is = by job (job_there range job is) o.after (range_if K range g o.after known good.0)
 
     -- ---- what the map tells
 
@@ -170,26 +177,38 @@ module _ (K : Knowledge) where
     assign_step : (range generation until : ℕ) (held : Option RangeState) → K.assigned range generation → ServerStep s (assign_rule s range generation until held)
     assign_step range generation until held known =
         if_elim (ServerStep s) (is_newer generation held) _ _
-        (λ t. record {
+        (λ t. subst (λ z. ServerStep s (record { after = z; packets = packets; notes = [] })) (sym (assigned_unmerged s n.merges opened range)) (record {
           names = record {
             ranges = inserted_at (RangeNames K) s.ranges range (new_range s.context range generation until) n.ranges
                 (record { generation = generation; under = (refl, refl, (refl, refl), (refl, refl), (refl, refl)); known = known });
             splits = splits_set s.splits range None n.splits tt;
             rising = splits_rise s.splits range None n.rising;
+            merges = n.merges;
           };
-          packets = are_named K range generation _ (laws.leased range generation known) (for_both range generation (users_of s.context held) _ (users_for range generation held) ((refl, refl), tt));
+          packets = are_named K range generation _ (laws.leased range generation known) (for_both range generation (users_of s.context held) (open_packet s.context.server range generation (request s.context) ∷ []) (users_for range generation held) ((refl, refl), tt));
           count = one_up s.context.count;
           server = refl;
           session = refl;
-        })
+        }))
         (λ f. rests_step s n)
+      where
+        opened : ServerState
+        opened =
+            record s {
+              context = used s.context;
+              ranges = insert_entry nat_cmp s.ranges range (new_range s.context range generation until);
+              splits = set_split s.splits range None;
+            }
+
+        packets : List Packet
+        packets = users_of s.context held ++ open_packet s.context.server range generation (request s.context) ∷ []
 
     renew_step : (range generation until : ℕ) (held : Option RangeState) → range_of s.ranges range ≡ held → ServerStep s (renew_rule s range generation until held)
     renew_step range generation until None is = rests_step s n
     renew_step range generation until (Some r) is =
         if_elim (ServerStep s) (r.load.generation == generation) _ _
         (λ t. (let h = range_there range r is in record {
-          names = record { ranges = ranges_set s.ranges range (Some _) n.ranges (record { generation = h.generation; under = h.under; known = h.known }); splits = n.splits; rising = n.rising };
+          names = record { ranges = ranges_set s.ranges range (Some _) n.ranges (record { generation = h.generation; under = h.under; known = h.known }); splits = n.splits; rising = n.rising; merges = n.merges };
           packets = tt;
           count = no_less s.context.count;
           server = refl;
@@ -241,7 +260,8 @@ module _ (K : Knowledge) where
     answer_in_step p w range None is = rests_step s n
     answer_in_step p w range (Some r) is =
         let h = range_there range r is in
-        stepped_step range h.generation h.known (answer_rule s.context r w p.body) (answer_good range h.generation s.context r w p.body h.under)
+        subst (ServerStep s) (sym (answer_unmerged s n.merges p w range r))
+        (stepped_step range h.generation h.known (answer_rule s.context r w p.body) (answer_good range h.generation s.context r w p.body h.under))
 
     split_answer_in_step : (p : Packet) (w : ReqNo) (range : ℕ) → BodyNames K p.body → answered_number p.body ≡ Some w → split_awaiting s.splits w ≡ Some range →
         (held : Option RangeState) → range_of s.ranges range ≡ held → (job : Option SplitJob) → split_of s.splits range ≡ job → ServerStep s (split_answer_in s p range held job)
@@ -251,8 +271,8 @@ module _ (K : Knowledge) where
     split_answer_in_step p w range b number waits (Some r) is None has = rests_step s n
     split_answer_in_step p w range b number waits None is job has = rests_step s n
 
-    split_answer_step : (p : Packet) (w : ReqNo) → BodyNames K p.body → answered_number p.body ≡ Some w → (range : Option ℕ) → split_awaiting s.splits w ≡ range → ServerStep s (split_answer s p range)
-    split_answer_step p w b number None waits = rests_step s n
+    split_answer_step : (p : Packet) (w : ReqNo) → BodyNames K p.body → answered_number p.body ≡ Some w → (range : Option ℕ) → split_awaiting s.splits w ≡ range → ServerStep s (split_answer s p w range)
+    split_answer_step p w b number None waits = subst (ServerStep s) (sym (unawaited_merge s n.merges p w)) (rests_step s n)
     split_answer_step p w b number (Some range) waits = split_answer_in_step p w range b number waits (range_of s.ranges range) refl (split_of s.splits range) refl
 
     answer_of_step : (p : Packet) (w : ReqNo) → BodyNames K p.body → answered_number p.body ≡ Some w → (range : Option ℕ) → ServerStep s (answer_of s p w range)
@@ -304,10 +324,10 @@ module _ (K : Knowledge) where
   -- ---- giving up, and moments
 
   pub picked_names : (s : ServerState) (pick : Nodes) → ServerNames K s → ServerNames K (picked s pick)
-  picked_names s pick n = record { ranges = n.ranges; splits = n.splits; rising = n.rising }
+  picked_names s pick n = record { ranges = n.ranges; splits = n.splits; rising = n.rising; merges = n.merges }
 
   pub moment_names : (s : ServerState) (now : ℕ) → ServerNames K s → ServerNames K (moment_rule s now)
-  moment_names s now n = record { ranges = n.ranges; splits = n.splits; rising = n.rising }
+  moment_names s now n = record { ranges = n.ranges; splits = n.splits; rising = n.rising; merges = n.merges }
 
   abbrev pub StepIf : ServerState → Option ServerOutcome → Type 0
   StepIf s None = Unit {0}
@@ -318,7 +338,7 @@ module _ (K : Knowledge) where
   gives_up_step laws s range (Some r) is n =
       if_elim (ServerStep s) (has_numbers s.context) _ _
       (λ t. (let h = range_there laws s n range r is in
-      given_up_step laws s n range h.generation h.known (give_up_all s.context r) (give_up_good range h.generation s.context r h.under) (split_of s.splits range) refl))
+      given_up_step laws s n range h.generation h.known (give_up_all s.context r) (give_up_good range h.generation s.context r h.under)))
       (λ f. rests_step s n)
 
   pub server_gives_up_step : Laws K → (s : ServerState) (range : ℕ) (pick : Nodes) → ServerNames K s → StepIf (picked s pick) (give_up_rule s range pick)

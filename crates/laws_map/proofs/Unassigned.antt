@@ -19,7 +19,7 @@ use Rattle.model_partition.specs.declared.range_entry.RangeEntry.{RangeEntry}
 use Rattle.model_partition.specs.Map.{MapState, range_at, range_of_key, changed_if, with_range, assigned, renewed, dropped_if, drop_pending, with_pending, begin, assign, halves_at, begin_split, halves, split_in, complete_split, union_with, union_beside, union_at, begin_merge, joined, merge_in, complete_merge}
 use Rattle.model_partition.specs.MapRules.{assign_rule, renew_rule, has_numbers, begin_split_fault, begin_split_taken, begin_split_rule, complete_split_fault, complete_split_taken, complete_split_rule, begin_merge_fault, begin_merge_taken, begin_merge_rule, complete_merge_fault, complete_merge_rule, route_rule, called, told, map_rule}
 use Rattle.model_partition.specs.Partition.{one_if, uses_pending, uses, IsSound}
-use Rattle.model_partition.specs.Cluster.{Cluster, cluster_after, cluster_after_all, first_cluster}
+use Rattle.model_partition.specs.Cluster.{IsUnmerged, AreUnmerged, Cluster, cluster_after, cluster_after_all, first_cluster}
 use Rattle.model_partition.proofs.Numbers.{BeginsNothing, kept, dropped}
 use Rattle.laws_map.specs.Naming.{Each, Knowledge, MapNames, BodyNames}
 use Rattle.laws_map.specs.Generations.{IsGone}
@@ -88,7 +88,7 @@ module _ (n : ℕ) where
       by_union (r ∷ rs) more None = (k.0, more)
       by_union (r ∷ rs) more (Some into) = (refl, more.1)
 
-  not_next : (m : MapState) (number : ℕ) → m.next ≤ number → IsSettled m n → one_if (number == n) ≡ 0
+  pub not_next : (m : MapState) (number : ℕ) → m.next ≤ number → IsSettled m n → one_if (number == n) ≡ 0
   not_next m number above k = go (number == n) refl
     where
       go : (b : Bool) → (number == n) ≡ b → one_if b ≡ 0
@@ -133,13 +133,13 @@ module _ (m : MapState) (s : IsSound m) where
   called_settles p q (Some refusal) o taken = record { extends = same_map; packets = (tt, tt) }
   called_settles p q None o taken = taken
 
-  assign_settles : (n server until : ℕ) (o : Option RangeEntry) → range_at m.ranges n ≡ o → Settles (assign_rule m n server until o)
+  pub assign_settles : (n server until : ℕ) (o : Option RangeEntry) → range_at m.ranges n ≡ o → Settles (assign_rule m n server until o)
   assign_settles n server until None at = silent_settles
   assign_settles n server until (Some x) at =
       if_elim Settles (nat_lt (suc x.generation) (2 ^ 64)) _ _
       (λ t. record { extends = extends (assign m n server until) (λ j k. assign_settled j m n server until k); packets = (assign_settled n m n server until (found_settled n x at), tt) }) (λ f. silent_settles)
 
-  renew_settles : (n server until : ℕ) (o : Option RangeEntry) → range_at m.ranges n ≡ o → Settles (renew_rule m n server until o)
+  pub renew_settles : (n server until : ℕ) (o : Option RangeEntry) → range_at m.ranges n ≡ o → Settles (renew_rule m n server until o)
   renew_settles n server until None at = silent_settles
   renew_settles n server until (Some x) at =
       record { extends = extends (with_range m n (renewed until)) (λ j k. renew_settled j m n until k); packets = (renew_settled n m n until (found_settled n x at), tt) }
@@ -202,7 +202,7 @@ module _ (m : MapState) (s : IsSound m) where
       called_settles p q (complete_merge_fault a b (range_at m.ranges left) (range_at m.ranges right) (union_at m.ranges left right)) _ (complete_merge_settles p.from q left right (union_at m.ranges left right))
   told_settles p body = silent_settles
 
-  map_settles : (p : Packet) (body : Body) → Settles (map_rule m p body)
+  pub map_settles : (p : Packet) (body : Body) → Settles (map_rule m p body)
   map_settles p (bodies.Map body) = told_settles p body
   map_settles p body = silent_settles
 
@@ -226,30 +226,31 @@ settled_laws m s = record {
 
 -- ---- runs
 
-asks_nothing : (K : MapState → ℕ → Type 0) (c : Cluster) (event : Event) → AskedIn (λ a. assigning (K a)) c event
-asks_nothing K c (Split s range key) = λ cell at st is r sent. tt
-asks_nothing K c (Submit user to body) = tt
-asks_nothing K c (Deliver number) = tt
-asks_nothing K c (Stop actor call keep) = tt
-asks_nothing K c (Restart actor) = tt
-asks_nothing K c (Decide e) = tt
-asks_nothing K c (GiveUp server range pick) = tt
-asks_nothing K c (Assign range server until) = tt
-asks_nothing K c (Renew range server until) = tt
-asks_nothing K c (Moment now) = tt
-asks_nothing K c (Checkpoint server range combine) = tt
-asks_nothing K c (Merge server left right) = tt
+asks_nothing : (K : MapState → ℕ → Type 0) (c : Cluster) (event : Event) → IsUnmerged event → AskedIn (λ a. assigning (K a)) c event
+asks_nothing K c (Split s range key) unmerged = λ cell at st is r sent. tt
+asks_nothing K c (Submit user to body) unmerged = tt
+asks_nothing K c (Deliver number) unmerged = tt
+asks_nothing K c (Stop actor call keep) unmerged = tt
+asks_nothing K c (Restart actor) unmerged = tt
+asks_nothing K c (Decide e) unmerged = tt
+asks_nothing K c (GiveUp server range pick) unmerged = tt
+asks_nothing K c (Assign range server until) unmerged = tt
+asks_nothing K c (Renew range server until) unmerged = tt
+asks_nothing K c (Moment now) unmerged = tt
+asks_nothing K c (Checkpoint server range combine) unmerged = tt
+asks_nothing K c (Merge server left right) unmerged = absurd unmerged
 
-all_settled : (events : List Event) (c : Cluster) → IsSound c.map → AreSettled c → AreSettled (cluster_after_all c events)
-all_settled [] c s n = n
-all_settled (event ∷ events) c s n =
-    all_settled events (cluster_after c event) (event_sound c event s) (event_keeps (λ a. assigning (IsSettled a)) c (settled_laws c.map s) n event (asks_nothing (λ a. IsSettled a) c event))
+all_settled : (events : List Event) → AreUnmerged events → (c : Cluster) → IsSound c.map → AreSettled c → AreSettled (cluster_after_all c events)
+all_settled [] are c s n = n
+all_settled (event ∷ events) are c s n =
+    all_settled events are.1 (cluster_after c event) (event_sound c event s)
+    (event_keeps (λ a. assigning (IsSettled a)) c (settled_laws c.map s) n event (asks_nothing (λ a. IsSettled a) c event are.0))
 
--- In every run no range that was assigned, or that a server holds, is one that the map is only to have.
-pub run_is_settled : (nodes servers target batch : ℕ) (events : List Event) → AreSettled (cluster_after_all (first_cluster nodes servers target batch) events)
-run_is_settled nodes servers target batch events =
+-- In every run without merges no range that was assigned, or that a server holds, is one that the map is only to have.
+pub run_is_settled : (nodes servers target batch : ℕ) (events : List Event) → AreUnmerged events → AreSettled (cluster_after_all (first_cluster nodes servers target batch) events)
+run_is_settled nodes servers target batch events are =
     let c : Cluster = first_cluster nodes servers target batch in
-    all_settled events c first_is_sound (record { post = λ p there. absurd (let less = there.1 in omega (arith, less)); servers = first_cells (assigning (IsSettled c.map)) batch 1 servers; catalog = λ range kind x is. tt })
+    all_settled events are c first_is_sound (record { post = λ p there. absurd (let less = there.1 in omega (arith, less)); servers = first_cells (assigning (IsSettled c.map)) batch 1 servers; catalog = λ range kind x is. tt })
 
 -- ---- a range that is to come
 
@@ -307,24 +308,25 @@ module _ (range bound : ℕ) (c : Cluster) (g : Governs c) (n : IsUnassigned ran
   rules (Split server k key) leaves = tt
   rules (Merge server left right) leaves = tt
 
-  event_unassigned : (event : Event) → LeavesGone range bound c g event → IsUnassigned range (cluster_after c event)
-  event_unassigned event leaves = event_goes (λ a. assigning (λ j. j ≡ range → ⊥)) c (assigning_laws (λ j. j ≡ range → ⊥)) tt n event (rules event leaves) (asks_nothing (λ a j. j ≡ range → ⊥) c event)
+  event_unassigned : (event : Event) → IsUnmerged event → LeavesGone range bound c g event → IsUnassigned range (cluster_after c event)
+  event_unassigned event unmerged leaves = event_goes (λ a. assigning (λ j. j ≡ range → ⊥)) c (assigning_laws (λ j. j ≡ range → ⊥)) tt n event (rules event leaves) (asks_nothing (λ a j. j ≡ range → ⊥) c event unmerged)
 
-never_assigned : (range : ℕ) (events : List Event) (c : Cluster) → Governs c → IsGone range c.map → IsUnassigned range c → IsUnassigned range (cluster_after_all c events)
-never_assigned range [] c g gone n = n
-never_assigned range (event ∷ events) c g gone n =
-    never_assigned range events (cluster_after c event) (event_governs c event g) (event_gone range 0 c g gone event) (event_unassigned range 0 c g n event (leaves_gone range 0 c g gone event))
+never_assigned : (range : ℕ) (events : List Event) → AreUnmerged events → (c : Cluster) → Governs c → IsGone range c.map → IsUnassigned range c → IsUnassigned range (cluster_after_all c events)
+never_assigned range [] are c g gone n = n
+never_assigned range (event ∷ events) are c g gone n =
+    never_assigned range events are.1 (cluster_after c event) (event_governs c event are.0 g) (event_gone range 0 c g gone event)
+    (event_unassigned range 0 c g n event are.0 (leaves_gone range 0 c g gone event))
 
 -- A range that the map was to have, and that is gone after the next event, was never assigned and never is, and no server ever holds it.
 pub run_never_assigns : (nodes servers target batch : ℕ) (events : List Event) (event : Event) (later : List Event) (range at : ℕ) (x : RangeEntry) →
-    range_at (cluster_after_all (first_cluster nodes servers target batch) events).map.ranges at ≡ Some x → 1 ≤ uses_pending range x.pending →
+    AreUnmerged events → IsUnmerged event → AreUnmerged later → range_at (cluster_after_all (first_cluster nodes servers target batch) events).map.ranges at ≡ Some x → 1 ≤ uses_pending range x.pending →
     IsGone range (cluster_after (cluster_after_all (first_cluster nodes servers target batch) events) event).map →
     IsUnassigned range (cluster_after_all (cluster_after (cluster_after_all (first_cluster nodes servers target batch) events) event) later)
-run_never_assigns nodes servers target batch events event later range at x found pending gone =
+run_never_assigns nodes servers target batch events event later range at x are is will found pending gone =
     let c : Cluster = cluster_after_all (first_cluster nodes servers target batch) events in
-    let g : Governs c = all_govern events (first_cluster nodes servers target batch) (first_governs nodes servers target batch) in
+    let g : Governs c = all_govern events are (first_cluster nodes servers target batch) (first_governs nodes servers target batch) in
     let l = entry_uses range at c.map.ranges x found in
     let used : 1 ≤ uses range c.map.ranges = omega (arith, l, pending) in
-    let n = pending_unassigned c range at x found pending (run_is_settled nodes servers target batch events) in
+    let n = pending_unassigned c range at x found pending (run_is_settled nodes servers target batch events are) in
     let drops = leaves range x.generation c g (below_next c.map range g.sound.fresh used) used (pending_bounds c.map range at x found pending) event gone in
-    never_assigned range later (cluster_after c event) (event_governs c event g) gone (event_unassigned range x.generation c g n event drops)
+    never_assigned range later will (cluster_after c event) (event_governs c event is g) gone (event_unassigned range x.generation c g n event is drops)

@@ -3,3 +3,5 @@ pub mod Numbers
 pub mod Generations
 pub mod Pairs
 pub mod Assigned
+pub mod Openings
+pub mod NewNumbers

@@ -153,10 +153,12 @@ pub record JobNames (K : Knowledge) (range : ℕ) (job : SplitJob) : Type 0 wher
   pub known : K.knows job.range job.generation
   pub phase : PhaseNames K job job.phase
 
+-- no merge is under way
 pub record ServerNames (K : Knowledge) (s : ServerState) : Type 0 where
   pub ranges : Each (λ x. RangeNames K x.0 x.1) s.ranges
   pub splits : Each (λ x. JobNames K x.0 x.1) s.splits
   pub rising : IsRising s.splits
+  pub merges : s.merges ≡ []
 
 abbrev pub StateNames : Knowledge → Option ServerState → Type 0
 StateNames K None = Unit {0}

@@ -1,5 +1,5 @@
 -- What a range at a server sees of its own actions, and of those of other ranges and servers.
-use Rattle.std.proofs.Common.{◌≡◌, ℕ, ◌+◌, Bool, List, [], ◌∷◌, ◌++◌, length, true, false, ◌&&◌, ◌==◌, refl, sym, ap, ◌∙◌, inl, inr, arith, if◌then◌else◌}
+use Rattle.std.proofs.Common.{◌≡◌, ℕ, ◌+◌, Bool, List, [], ◌∷◌, ◌++◌, length, true, false, ◌&&◌, ◌==◌, refl, sym, ap, ◌∙◌, inl, inr, arith, append-nil, if◌then◌else◌}
 use Rattle.std.proofs.lemmas.Bool.Decides.{nat_tests}
 use Rattle.std.specs.List.{AllByRecursion}
 use Rattle.std.proofs.lemmas.Bool.{cases_eq}
@@ -11,7 +11,7 @@ use Rattle.model_streams.specs.Maps.{changed, entry_at}
 use Rattle.model_partition.specs.Loading.{Group}
 use Rattle.model_histories.specs.Story.{StreamEvent, Story, Made, Answered, Showed}
 use Rattle.model_histories.specs.StreamActions.{StreamAction, Reads, Forms, Stands, Shows, Finds, Stores, PlacedBytes, SideAction}
-use Rattle.model_histories.specs.ServerRun.{ServerRun, RangeHistory, ServerEvent, Takes, GivesUp, Checkpoints, Splits, Stops, Starts, Moment, RangeEffect, Begins, Does, Tells, Rests, after_action, after_actions, after_sides, with_event, with_effect, cell_effect, after_event, is_kind, is_stream, one_more_read, begun_at, stream_named, place_number, placed_reads, placed_behind, bytes_read}
+use Rattle.model_histories.specs.ServerRun.{ServerRun, RangeHistory, ServerEvent, Takes, GivesUp, Checkpoints, Splits, Stops, Starts, Moment, Builds, RangeEffect, Begins, Does, Tells, Rests, after_action, after_actions, after_sides, with_event, with_effect, cell_effect, after_event, own_or, is_kind, is_stream, one_more_read, begun_at, stream_named, place_number, placed_reads, placed_behind, bytes_read}
 use Rattle.laws_loads.specs.RangeView.{view_after, view_after_all}
 use Rattle.laws_server_runs.specs.RangeInvariant.{IsLonger}
 use Rattle.laws_server_runs.specs.RunInvariant.{view_at}
@@ -139,6 +139,23 @@ longer_at placed range k more = elim (cases_eq k range) [
   | inr other ↦ ([], ap (λ b. if b then more ++ placed range else placed k) (other_test k range other))
 ]
 
+-- what is built stands where nothing stood
+own_longer : {A : Type 0} (own given : List A) → IsLonger own (own_or own given)
+own_longer [] given = (given, sym (append-nil given))
+own_longer (x ∷ own) given = longer_same (x ∷ own)
+
+longer_if : {A : Type 0} (own given : List A) (b : Bool) → IsLonger own (if b then own_or own given else own)
+longer_if own given true = own_longer own given
+longer_if own given false = longer_same own
+
+longer_built : (placed : ℕ → List PlacedBytes) (range k : ℕ) (given : List PlacedBytes) → IsLonger (placed k) (changed range (own_or (placed range) given) placed k)
+longer_built placed range k given = elim (cases_eq k range) [
+  | inl same ↦
+      (let more : IsLonger (placed range) (own_or (placed range) given) = own_longer (placed range) given in
+      (more.0, ap (λ b. if b then own_or (placed range) given else placed k) (ap (λ n. n == range) same ∙ same_test range) ∙ more.1 ∙ ap (λ n. more.0 ++ placed n) (sym same)))
+  | inr other ↦ ([], ap (λ b. if b then own_or (placed range) given else placed k) (other_test k range other))
+]
+
 pub record Longer (x y : ServerRun) : Type 0 where
   pub story : (n : StreamName) → IsLonger (x.story n) (y.story n)
   pub shown : (range : ℕ) → IsLonger (x.shown range) (y.shown range)
@@ -236,3 +253,8 @@ event_longer x (Splits s range key) = record { story = λ n. longer_same (x.stor
 event_longer x (Stops s call) = record { story = λ n. longer_same (x.story n); shown = λ k. longer_same (x.shown k); answered = λ k. longer_same (x.answered k) }
 event_longer x (Starts s now batch) = record { story = λ n. longer_same (x.story n); shown = λ k. longer_same (x.shown k); answered = λ k. longer_same (x.answered k) }
 event_longer x (Moment now) = record { story = λ n. longer_same (x.story n); shown = λ k. longer_same (x.shown k); answered = λ k. longer_same (x.answered k) }
+event_longer x (Builds source range) = record {
+  story = λ n. longer_if (x.story n) (x.story (stream_named source n.kind)) (n.range == range);
+  shown = λ k. longer_built x.shown range k (x.shown source);
+  answered = λ k. longer_built x.answered range k (x.answered source);
+}

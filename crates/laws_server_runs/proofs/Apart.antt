@@ -1,6 +1,6 @@
 -- Where the map gives the number of a range to neither of the two that a split makes, that range is none of those of any split at
 -- servers.
-use Rattle.std.proofs.Common.{◌≡◌, ℕ, ◌-◌, List, [], ◌∷◌, ◌&&◌, Option, Some, None, is_some, slice_set, refl, sym, ap, ◌∙◌, subst, inl, inr}
+use Rattle.std.proofs.Common.{◌≡◌, ◌⊎◌, ℕ, ◌-◌, List, [], ◌∷◌, ◌&&◌, Option, Some, None, is_some, slice_set, refl, sym, ap, ◌∙◌, subst, inl, inr}
 use Rattle.std.proofs.lemmas.Bool.{cases_eq}
 use Rattle.wire.specs.declared.actor.ActorId.TheVariants as actors
 use Rattle.wire.specs.declared.body.AppendBody.{AppendBody}
@@ -33,16 +33,17 @@ use Rattle.model_partition.specs.Splits.{SplitStep, split_item, may_checkpoint, 
 use Rattle.model_partition.specs.Range.{RangeState, RangeOutcome, request, picking}
 use Rattle.model_partition.specs.Server.{ServerState, ServerOutcome, split_of, set_split}
 use Rattle.model_partition.specs.Servers.{ServerCell}
-use Rattle.model_histories.specs.ServerRun.{ServerRun, RangeEffect, ServerEvent, Takes, GivesUp, Checkpoints, Splits, Stops, Starts, Moment, after_event, first_run, run_of}
-use Rattle.model_histories.specs.ServedTables.{AreUnsplit, IsOfOthers, IsUnborn, AreUnborn}
+use Rattle.model_histories.specs.ServerRun.{ServerRun, RangeEffect, ServerEvent, Takes, GivesUp, Checkpoints, Splits, Stops, Starts, Moment, Builds, after_event, first_run, run_of}
+use Rattle.model_histories.specs.ServedTables.{IsUnsplit, AreUnsplit, IsOfOthers, IsUnborn, AreUnborn}
 use Rattle.model_histories.specs.StreamActions.{StreamAction}
 use Rattle.laws_loads.proofs.Entries.{entry_set, entry_other}
 use Rattle.laws_server_runs.specs.Places.{AreAscending, RunLaid}
 use Rattle.laws_server_runs.specs.RunInvariant.{IsApartIn, IsApart, AreApart}
-use Rattle.laws_server_runs.specs.Turns.{IsStep, Alone, BeginsSplit, Drops, Follows, Leaves, Holds, Hears, LeavesSplit, IsEffect, Own, None_done, OfOthers, Turn, Idles, Opens, Acts, outcome_of, HoldNoMore, RunStep, Keeps, Passes, Turns}
+use Rattle.laws_server_runs.specs.Turns.{IsStep, Alone, BeginsSplit, Drops, Follows, Leaves, Holds, Hears, LeavesSplit, IsEffect, Own, None_done, OfOthers, Turn, Idles, Opens, Acts, outcome_of, IsOfServers, BuildsOther, HoldNoMore, RunStep, Keeps, Passes, Turns}
 use Rattle.laws_server_runs.proofs.LaidRuns.{no_splits, all_laid}
 use Rattle.laws_server_runs.proofs.RangeLists.{inserted_here, inserted_other, dropped_here, dropped_other}
-use Rattle.laws_server_runs.proofs.RunSteps.{IsAny, any_assigned, AllNumbered, event_step}
+use Rattle.laws_server_runs.proofs.RunSteps.{IsAny, IsBuild, event_kind, any_assigned, AllNumbered, event_step}
+use Rattle.laws_server_runs.proofs.Unmerged.{HaveNoMerges, unmerged}
 use Rattle.laws_server_runs.proofs.Unsplit.{unsplit}
 
 module _ (k : ℕ) where
@@ -239,7 +240,7 @@ module _ (k : ℕ) where
   -- at all times
   abbrev pub StaysApart : (batch servers : ℕ) → List ServerEvent → Type 0
   StaysApart batch servers [] = Unit {0}
-  StaysApart batch servers (event ∷ earlier) = AreApart k (run_of batch servers earlier).servers × StaysApart batch servers earlier
+  StaysApart batch servers (event ∷ earlier) = (AreApart k (run_of batch servers earlier).servers × BuildsOther k event) × StaysApart batch servers earlier
 
   first_apart : (batch servers : ℕ) → AreApart k (first_run batch servers).servers
   first_apart batch servers s cell st at up j job found = absurd (let z : None ≡ Some job = sym (ap (λ l. split_of l j) (no_splits batch servers s cell st at up)) ∙ found in cc)
@@ -252,23 +253,30 @@ module _ (k : ℕ) where
   others_numbered (Stops s call) unborn = tt
   others_numbered (Starts s now batch) unborn = tt
   others_numbered (Moment now) unborn = tt
+  others_numbered (Builds source range) unborn = tt
+
+  event_apart : (x : ServerRun) → RunLaid x → HaveNoMerges x.servers → AreApart k x.servers → (event : ServerEvent) → IsUnborn k event → IsOfServers event ⊎ IsBuild event → AreApart k (after_event x event).servers
+  event_apart x laid whole apart event unborn (inl is) =
+      step_all x laid apart (outcome_of x.servers event).notes (after_event x event) (event_step IsAny IsOther x whole event is (any_assigned event) (others_numbered event unborn))
+  event_apart x laid whole apart event unborn (inr build) = subst (λ e. AreApart k (after_event x e).servers) (sym build.2) apart
 
   unborn_all : (batch servers : ℕ) (events : List ServerEvent) → AreUnborn k events → AreApart k (run_of batch servers events).servers
   unborn_all batch servers [] are = first_apart batch servers
   unborn_all batch servers (event ∷ earlier) are =
-      let x : ServerRun = run_of batch servers earlier in
-      step_all x (all_laid batch servers earlier) (unborn_all batch servers earlier are.1) (outcome_of x.servers event).notes (after_event x event)
-      (event_step IsAny IsOther x event (any_assigned event) (others_numbered event are.0))
+      event_apart (run_of batch servers earlier) (all_laid batch servers earlier) (unmerged batch servers earlier) (unborn_all batch servers earlier are.1) event are.0 (event_kind event)
 
   -- where the map never gives its number to one of two
   pub unborn_apart : (batch servers : ℕ) (events : List ServerEvent) → AreUnborn k events → StaysApart batch servers events
   unborn_apart batch servers [] are = tt
-  unborn_apart batch servers (event ∷ earlier) are = (unborn_all batch servers earlier are.1, unborn_apart batch servers earlier are.1)
+  unborn_apart batch servers (event ∷ earlier) are = ((unborn_all batch servers earlier are.1, λ source range e. subst (IsUnborn k) e are.0), unborn_apart batch servers earlier are.1)
 
   -- and where there are no splits
   pub unsplit_apart : (batch servers : ℕ) (events : List ServerEvent) → AreUnsplit events → StaysApart batch servers events
   unsplit_apart batch servers [] are = tt
   unsplit_apart batch servers (event ∷ earlier) are = (
-    λ s cell st at up j job found. absurd (let z : None ≡ Some job = sym (ap (λ l. split_of l j) (unsplit batch servers earlier are.1 s cell at st up)) ∙ found in cc),
+    (
+      λ s cell st at up j job found. absurd (let z : None ≡ Some job = sym (ap (λ l. split_of l j) (unsplit batch servers earlier are.1 s cell at st up)) ∙ found in cc),
+      λ source range e same. subst IsUnsplit e are.0,
+    ),
     unsplit_apart batch servers earlier are.1,
   )

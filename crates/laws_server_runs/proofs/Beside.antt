@@ -1,5 +1,5 @@
 -- What is kept of a range stays so while others act, and while it begins its load anew.
-use Rattle.std.proofs.Common.{[], ◌≡◌, ◌⊎◌, ℕ, suc, List, true, false, Some, None, refl, sym, ap, ◌∙◌, subst, inl, inr, arith}
+use Rattle.std.proofs.Common.{[], ◌≡◌, ◌⊎◌, ◌++◌, ℕ, suc, List, true, false, Some, None, refl, sym, ap, ◌∙◌, subst, inl, inr, arith}
 use Rattle.wire.specs.declared.note.Note.{Note}
 use Rattle.wire.specs.declared.streams.StreamKind.{StreamKind}
 use Rattle.wire.specs.declared.streams.StreamKind.TheVariants as kinds
@@ -14,11 +14,11 @@ use Rattle.model_histories.specs.ServerRun.{ServerRun, first_history, stream_nam
 use Rattle.model_histories.specs.ServedTables.{AreSeenAs, ServesAt}
 use Rattle.laws_loads.specs.RangeView.{Free}
 use Rattle.laws_server_runs.specs.RangeInvariant.{RangeKept, AreObserved, Rests}
-use Rattle.laws_server_runs.specs.RunInvariant.{view_at, with_stage, SplitKept, HeldKept, RunKept}
+use Rattle.laws_server_runs.specs.RunInvariant.{view_at, with_stage, SplitKept, HeldKept, Taken, RunBehind}
 use Rattle.laws_server_runs.proofs.Loads.{new_kept}
 use Rattle.laws_server_runs.proofs.Others.{streams_same, others_kept}
 
-module _ (texts : ℕ → Bytes) (subject : ℕ) (x : ServerRun) (kept : RunKept texts subject x) (y : ServerRun) where
+module _ (texts : ℕ → Bytes) (subject : ℕ) (taken : Taken) (x : ServerRun) (kept : RunBehind texts subject taken x) (y : ServerRun) where
   -- the server had the range before, and neither the range nor its split did anything
   abbrev pub Was : ℕ → ServerState → RangeState → Type 0
   Was t q r = (b : ServerCell) × (st : ServerState) × (entry_at x.servers t ≡ Some b) × (b.state ≡ Some st) × (range_of st.ranges subject ≡ Some r) × (y.history t subject ≡ x.history t subject)
@@ -64,11 +64,12 @@ module _ (texts : ℕ → Bytes) (subject : ℕ) (x : ServerRun) (kept : RunKept
         go (inl (cell, st, there, up, held, same, split)) = record { cell = cell; state = st; there = there; runs = up; held = held; serves = s.serves }
         go (inr (d, generation, until, is, none, split)) = absurd (let z : false ≡ true = sym (ap (λ (u : RangeState). is_serving u.stage) is) ∙ s.serves in cc)
 
-    pub beside_kept : RunKept texts subject y
+    pub beside_kept : RunBehind texts subject taken y
     beside_kept = record {
       run = kept.run;
+      behind = kept.behind;
       ranges = λ t c q there up r held. is_kept t q r (b.holds t c q there up r held);
       own = λ s t r u one two same. kept.own s t r u (served_before s r one) (served_before t u two) same;
       streams = streams_same texts kept.run (view_at subject x 0) (view_at subject y 0) (b.story kinds.Log) (b.story kinds.Metadata) kept.streams;
-      seen = λ notes seen. let n = b.notes notes seen in subst (λ l. AreObserved texts subject kept.run l) (sym n.2) (kept.seen n.0 n.1);
+      seen = λ notes seen. let n = b.notes notes seen in subst (λ l. AreObserved texts subject kept.run (taken.notes ++ l)) (sym n.2) (kept.seen n.0 n.1);
     }

@@ -11,20 +11,21 @@ use Rattle.model_partition.specs.Range.{RangeState, RangeOutcome}
 use Rattle.model_partition.specs.Server.{ServerState, ServerOutcome, range_of, set_range, new_range, split_of}
 use Rattle.model_partition.specs.declared.split_job.SplitJob.{SplitJob}
 use Rattle.model_partition.specs.Servers.{ServerCell}
-use Rattle.model_histories.specs.ServerRun.{ServerRun, RangeEffect, ServerEvent, Takes, GivesUp, Checkpoints, Splits, Stops, Starts, Moment, run_of, after_event}
+use Rattle.model_histories.specs.ServerRun.{ServerRun, RangeEffect, ServerEvent, Takes, GivesUp, Checkpoints, Splits, Stops, Starts, Moment, Builds, run_of, after_event}
 use Rattle.model_histories.specs.StreamActions.{StreamAction, PlacedBytes}
 use Rattle.model_histories.specs.ServedTables.{IsOfFirst, IsFirst, AreFirst, AreSeenAs}
 use Rattle.laws_loads.proofs.Entries.{entry_set, entry_other}
 use Rattle.laws_loads.specs.RangeView.{view_after_all}
 use Rattle.laws_server_runs.specs.Places.{NotesWithin, StepLaid, RunLaid}
 use Rattle.laws_server_runs.specs.RunInvariant.{view_at}
-use Rattle.laws_server_runs.specs.Turns.{IsStep, IsEffect, Own, None_done, OfOthers, Turn, Idles, Opens, Acts, outcome_of, RunStep, Keeps, Passes, Turns}
+use Rattle.laws_server_runs.specs.Turns.{IsStep, IsEffect, Own, None_done, OfOthers, Turn, Idles, Opens, Acts, outcome_of, IsOfServers, RunStep, Keeps, Passes, Turns}
 use Rattle.laws_server_runs.proofs.Fronts.{SeenBoth, seen_both}
 use Rattle.laws_server_runs.proofs.LaidRuns.{bare, all_laid, event_notes}
 use Rattle.laws_server_runs.proofs.LaidSplits.{laid_step}
 use Rattle.laws_server_runs.proofs.OwnNotes.{only_both, own_notes}
 use Rattle.laws_server_runs.proofs.RangeLists.{inserted_other, left_other}
-use Rattle.laws_server_runs.proofs.RunSteps.{IsAnyPair, AllAssigned, any_numbered, event_step}
+use Rattle.laws_server_runs.proofs.RunSteps.{IsAnyPair, AllAssigned, any_numbered, event_kind, event_step}
+use Rattle.laws_server_runs.proofs.Unmerged.{unmerged}
 
 abbrev IsTheFirst : ℕ → Type 0
 IsTheFirst range = range ≡ first_range
@@ -37,6 +38,7 @@ first_assigned (Splits s range key) first = tt
 first_assigned (Stops s call) first = tt
 first_assigned (Starts s now batch) first = tt
 first_assigned (Moment now) first = tt
+first_assigned (Builds source range) first = tt
 
 -- each range at a server is the first
 abbrev HoldsFirst : List ServerCell → Type 0
@@ -119,8 +121,8 @@ module _ (texts : ℕ → Bytes) (batch servers : ℕ) where
     holds : HoldsFirst x.servers
     seen : (notes : List Note) → AreSeenAs texts x.notes notes → only first_range notes ≡ notes
 
-  one_more : (event : ServerEvent) (earlier : List ServerEvent) → IsFirst event → IsOfTheFirst (run_of batch servers earlier) → IsOfTheFirst (run_of batch servers (event ∷ earlier))
-  one_more event earlier first old = record { holds = step.0; seen = all }
+  one_taken : (event : ServerEvent) (earlier : List ServerEvent) → IsOfServers event → IsFirst event → IsOfTheFirst (run_of batch servers earlier) → IsOfTheFirst (run_of batch servers (event ∷ earlier))
+  one_taken event earlier is first old = record { holds = step.0; seen = all }
     where
       x : ServerRun
       x = run_of batch servers earlier
@@ -129,13 +131,19 @@ module _ (texts : ℕ → Bytes) (batch servers : ℕ) where
       more = (outcome_of x.servers event).notes
 
       step : HoldsFirst (after_event x event).servers × AreOfFirst more
-      step = step_first x (all_laid batch servers earlier) old.holds more (after_event x event) (event_step IsTheFirst IsAnyPair x event (first_assigned event first) (any_numbered event))
+      step = step_first x (all_laid batch servers earlier) old.holds more (after_event x event) (event_step IsTheFirst IsAnyPair x (unmerged batch servers earlier) event is (first_assigned event first) (any_numbered event))
 
       all : (notes : List Note) → AreSeenAs texts (after_event x event).notes notes → only first_range notes ≡ notes
       all notes seen =
           let b : SeenBoth texts x.notes more notes = seen_both texts x.notes more notes (subst (λ l. AreSeenAs texts l notes) (event_notes batch servers x event) seen) in
           ap (only first_range) b.is ∙ only_both first_range b.before b.later
           ∙ (λ i. old.seen b.before b.first_seen i ++ own_notes texts step.1.0 first_range more b.later step.1.1 b.second_seen i) ∙ sym b.is
+
+  one_more : (event : ServerEvent) (earlier : List ServerEvent) → IsFirst event → IsOfTheFirst (run_of batch servers earlier) → IsOfTheFirst (run_of batch servers (event ∷ earlier))
+  one_more event earlier first old = elim (event_kind event) [
+    | inl is ↦ one_taken event earlier is first old
+    | inr build ↦ subst (λ e. IsOfTheFirst (after_event (run_of batch servers earlier) e)) (sym build.2) (record { holds = old.holds; seen = old.seen })
+  ]
 
   none_yet : IsOfTheFirst (run_of batch servers [])
   none_yet = record {

@@ -21,7 +21,7 @@ use Rattle.laws_loads.proofs.Entries.{entry_set, entry_other}
 use Rattle.laws_loads.specs.RangeView.{view_after_all}
 use Rattle.laws_server_runs.specs.Places.{StepLaid, RunLaid}
 use Rattle.laws_server_runs.specs.RangeInvariant.{StreamsKept, InOrder}
-use Rattle.laws_server_runs.specs.RunInvariant.{view_at, AreApart, RunKept}
+use Rattle.laws_server_runs.specs.RunInvariant.{view_at, AreApart, Taken, RunBehind}
 use Rattle.laws_server_runs.specs.Turns.{IsStep, LeavesSplit, IsEffect, Own, None_done, OfOthers, Turn, Idles, Opens, Acts, HoldNoMore, RunStep, Keeps, Passes, Turns}
 use Rattle.laws_server_runs.proofs.Actions.{same_test, other_test, actions_here, actions_apart, actions_beside, actions_bytes, actions_rest, AreOthers, SidesBeside, sides_beside, sides_rest}
 use Rattle.laws_server_runs.proofs.Beside.{Was, IsNew, beside_kept}
@@ -40,9 +40,9 @@ and_false : (b : Bool) → (b && false) ≡ false
 and_false true = refl
 and_false false = refl
 
-module _ (texts : ℕ → Bytes) (subject : ℕ) (x : ServerRun) (laid : RunLaid x) (kept : RunKept texts subject x) where
+module _ (texts : ℕ → Bytes) (subject : ℕ) (taken : Taken) (x : ServerRun) (laid : RunLaid x) (kept : RunBehind texts subject taken x) where
   abbrev Kept : ServerRun → Type 0
-  Kept y = InOrder texts (view_at subject y 0) → RunKept texts subject y
+  Kept y = InOrder texts (view_at subject y 0) → RunBehind texts subject taken y
 
   -- nothing is shown
   silent : (notes : List Note) → AreSeenAs texts (x.notes ++ []) notes → (before : List Note) × AreSeenAs texts x.notes before × (only subject notes ≡ only subject before)
@@ -50,21 +50,21 @@ module _ (texts : ℕ → Bytes) (subject : ℕ) (x : ServerRun) (laid : RunLaid
 
   -- servers that hold no more than they held
   like_was : (servers : List ServerCell) → HoldNoMore x.servers servers → (y : ServerRun) → ((t : ℕ) → y.history t subject ≡ x.history t subject) →
-      (t : ℕ) (c : ServerCell) (q : ServerState) → entry_at servers t ≡ Some c → c.state ≡ Some q → (r : RangeState) → range_of q.ranges subject ≡ Some r → Was texts subject x kept y t q r ⊎ IsNew texts subject x kept y t q r
+      (t : ℕ) (c : ServerCell) (q : ServerState) → entry_at servers t ≡ Some c → c.state ≡ Some q → (r : RangeState) → range_of q.ranges subject ≡ Some r → Was texts subject taken x kept y t q r ⊎ IsNew texts subject taken x kept y t q r
   like_was servers like y same t c q there up r held = elim (like t c q there up) [
     | inl none ↦ absurd (let z : None ≡ Some r = sym (ap (λ l. range_of l subject) none.0) ∙ held in cc)
     | inr old ↦ inl (old.0, old.1, old.2, old.3, sym (ap (λ l. range_of l subject) old.4) ∙ held, same t, ap (λ l. split_of l subject) old.5)
   ]
 
-  keeps : (servers : List ServerCell) (packets : List Packet) → HoldNoMore x.servers servers → RunKept texts subject (with_outcome x (record { servers = servers; packets = packets; notes = [] }))
+  keeps : (servers : List ServerCell) (packets : List Packet) → HoldNoMore x.servers servers → RunBehind texts subject taken (with_outcome x (record { servers = servers; packets = packets; notes = [] }))
   keeps servers packets like =
       let y : ServerRun = with_outcome x (record { servers = servers; packets = packets; notes = [] }) in
-      beside_kept texts subject x kept y (record { holds = like_was servers like y (λ t. refl); story = λ kind. refl; answered = refl; notes = silent })
+      beside_kept texts subject taken x kept y (record { holds = like_was servers like y (λ t. refl); story = λ kind. refl; answered = refl; notes = silent })
 
-  passes : (servers : List ServerCell) → HoldNoMore x.servers servers → RunKept texts subject (record x { servers = servers })
+  passes : (servers : List ServerCell) → HoldNoMore x.servers servers → RunBehind texts subject taken (record x { servers = servers })
   passes servers like =
       let y : ServerRun = record x { servers = servers } in
-      beside_kept texts subject x kept y (record { holds = like_was servers like y (λ t. refl); story = λ kind. refl; answered = refl; notes = λ notes seen. (notes, seen, refl) })
+      beside_kept texts subject taken x kept y (record { holds = like_was servers like y (λ t. refl); story = λ kind. refl; answered = refl; notes = λ notes seen. (notes, seen, refl) })
 
   -- ---- a server takes a turn
 
@@ -74,8 +74,8 @@ module _ (texts : ℕ → Bytes) (subject : ℕ) (x : ServerRun) (laid : RunLaid
 
     -- what the servers hold of the range after a turn that is none of the range
     module _ (next : ServerState) (y : ServerRun) (servers_are : y.servers ≡ slice_set x.servers (s - 1) (record cell { state = Some next })) (apart : (t : ℕ) → (t ≡ s → ⊥) → y.history t subject ≡ x.history t subject)
-        (mine : (r : RangeState) → range_of next.ranges subject ≡ Some r → Was texts subject x kept y s next r ⊎ IsNew texts subject x kept y s next r) where
-      held_by : (t : ℕ) (c : ServerCell) (q : ServerState) → entry_at y.servers t ≡ Some c → c.state ≡ Some q → (r : RangeState) → range_of q.ranges subject ≡ Some r → Was texts subject x kept y t q r ⊎ IsNew texts subject x kept y t q r
+        (mine : (r : RangeState) → range_of next.ranges subject ≡ Some r → Was texts subject taken x kept y s next r ⊎ IsNew texts subject taken x kept y s next r) where
+      held_by : (t : ℕ) (c : ServerCell) (q : ServerState) → entry_at y.servers t ≡ Some c → c.state ≡ Some q → (r : RangeState) → range_of q.ranges subject ≡ Some r → Was texts subject taken x kept y t q r ⊎ IsNew texts subject taken x kept y t q r
       held_by t c q there up r held = elim (cases_eq t s) [
         | inl same ↦
             (let both : Some (record cell { state = Some next }) ≡ Some c =
@@ -83,15 +83,15 @@ module _ (texts : ℕ → Bytes) (subject : ℕ) (x : ServerRun) (laid : RunLaid
             let is_cell : record cell { state = Some next } ≡ c = cc in
             let state : Some next ≡ Some q = ap (λ (z : ServerCell). z.state) is_cell ∙ up in
             let e : next ≡ q = cc in
-            subst (λ n. Was texts subject x kept y n q r ⊎ IsNew texts subject x kept y n q r) (sym same)
-            (subst (λ z. Was texts subject x kept y s z r ⊎ IsNew texts subject x kept y s z r) e (mine r (ap (λ (z : ServerState). range_of z.ranges subject) e ∙ held))))
+            subst (λ n. Was texts subject taken x kept y n q r ⊎ IsNew texts subject taken x kept y n q r) (sym same)
+            (subst (λ z. Was texts subject taken x kept y s z r ⊎ IsNew texts subject taken x kept y s z r) e (mine r (ap (λ (z : ServerState). range_of z.ranges subject) e ∙ held))))
         | inr other ↦ inl (c, q, sym (entry_other x.servers s cell (record cell { state = Some next }) at t other) ∙ sym (ap (λ l. entry_at l t) servers_are) ∙ there, up, held, apart t other, refl)
       ]
 
-    idles : (next : ServerState) (packets : List Packet) → next.ranges ≡ st.ranges → next.splits ≡ st.splits → RunKept texts subject (Next Rests (record { after = next; packets = packets; notes = [] }))
+    idles : (next : ServerState) (packets : List Packet) → next.ranges ≡ st.ranges → next.splits ≡ st.splits → RunBehind texts subject taken (Next Rests (record { after = next; packets = packets; notes = [] }))
     idles next packets same splits =
         let y : ServerRun = Next Rests (record { after = next; packets = packets; notes = [] }) in
-        beside_kept texts subject x kept y (record {
+        beside_kept texts subject taken x kept y (record {
           holds = held_by next y refl (λ t other. refl) (λ r held. inl (cell, st, at, is, sym (ap (λ l. range_of l subject) same) ∙ held, refl, ap (λ l. split_of l subject) splits));
           story = λ kind. refl;
           answered = refl;
@@ -99,9 +99,9 @@ module _ (texts : ℕ → Bytes) (subject : ℕ) (x : ServerRun) (laid : RunLaid
         })
 
     opens : (range : ℕ) (d : ServerContext) (generation until : ℕ) (next : ServerState) (packets : List Packet) → next.ranges ≡ insert_entry nat_cmp st.ranges range (new_range d range generation until) → next.splits ≡ set_split st.splits range None →
-        RunKept texts subject (Next (Begins range) (record { after = next; packets = packets; notes = [] }))
+        RunBehind texts subject taken (Next (Begins range) (record { after = next; packets = packets; notes = [] }))
     opens range d generation until next packets new splits =
-        beside_kept texts subject x kept y (record {
+        beside_kept texts subject taken x kept y (record {
           holds = held_by next y refl (λ t other. ap (λ b. if b then first_history else x.history t subject) (ap (λ b. b && (subject == range)) (other_test t s other))) mine;
           story = λ kind. refl;
           answered = refl;
@@ -111,7 +111,7 @@ module _ (texts : ℕ → Bytes) (subject : ℕ) (x : ServerRun) (laid : RunLaid
         y : ServerRun
         y = Next (Begins range) (record { after = next; packets = packets; notes = [] })
 
-        mine : (r : RangeState) → range_of next.ranges subject ≡ Some r → Was texts subject x kept y s next r ⊎ IsNew texts subject x kept y s next r
+        mine : (r : RangeState) → range_of next.ranges subject ≡ Some r → Was texts subject taken x kept y s next r ⊎ IsNew texts subject taken x kept y s next r
         mine r held = elim (cases_eq subject range) [
           | inl same ↦
               (let found : Some (new_range d range generation until) ≡ Some r =
@@ -165,16 +165,16 @@ module _ (texts : ℕ → Bytes) (subject : ℕ) (x : ServerRun) (laid : RunLaid
           let here : InOrder texts (view_after_all r.load.generation (view_at subject x s) actions) = subst (λ v. InOrder texts v) (actions_here s subject r.load.generation x actions) all in
           let streams : StreamsKept texts kept.run (view_at subject x s) = streams_same texts kept.run (view_at subject x 0) (view_at subject x s) refl refl kept.streams in
           let l : StepLaid subject (view_at subject x s) r.load.generation actions o = step_laid subject held (split_of st.splits subject) step in
-          stepped_kept texts subject x kept s cell st at is r held actions o later
+          stepped_kept texts subject taken x kept s cell st at is r held actions o later
           (step_turn texts subject kept.run (view_at subject x s) r streams (laid.ranges s cell st at is subject r held).low IsAnyPair (split_of st.splits subject) actions o later step (kept.ranges s cell st at is r held) here)
           (λ notes seen. own_notes texts (view_after_all r.load.generation (view_at subject x s) actions).shown subject o.notes notes l.notes seen)
           next (ap (λ z. range_of z subject) left ∙ left_here st.ranges subject r o.after (laid.ascending s cell st at is) held) (split_here subject later next.splits splits) packets
 
       -- another range
       acts_beside : (range : ℕ) → (subject ≡ range → ⊥) → range_of st.ranges range ≡ Some r → (job : Option SplitJob) → IsStep IsAnyPair r job actions o later → next.ranges ≡ set_range st.ranges range o.after → LeavesSplit st.splits range later next.splits →
-          RunKept texts subject (After range)
+          RunBehind texts subject taken (After range)
       acts_beside range other held job step left splits =
-          beside_kept texts subject x kept (After range) (record {
+          beside_kept texts subject taken x kept (After range) (record {
             holds = held_by next (After range) refl (λ t apart. same_history t)
                 (λ z found. inl (cell, st, at, is, sym (left_other st.ranges range o.after subject other) ∙ sym (ap (λ l. range_of l subject) left) ∙ found, same_history s, split_other range later next.splits subject other splits));
             story = λ kind. actions_beside s range r.load.generation (stream_named subject kind) (other_test subject range other) x actions;
@@ -206,7 +206,7 @@ module _ (texts : ℕ → Bytes) (subject : ℕ) (x : ServerRun) (laid : RunLaid
 
 -- ---- the two ranges that a split makes
 
-module _ (texts : ℕ → Bytes) (subject s g : ℕ) (x : ServerRun) (kept : RunKept texts subject x) (sides : List SideAction) (others : AreOthers subject sides) where
+module _ (texts : ℕ → Bytes) (subject : ℕ) (taken : Taken) (s g : ℕ) (x : ServerRun) (kept : RunBehind texts subject taken x) (sides : List SideAction) (others : AreOthers subject sides) where
   abbrev told_run : ServerRun
   told_run = after_sides s g x sides
 
@@ -214,8 +214,8 @@ module _ (texts : ℕ → Bytes) (subject s g : ℕ) (x : ServerRun) (kept : Run
   apart = sides_beside s g subject x sides others
 
   -- a range that is none of them
-  pub sides_kept : RunKept texts subject told_run
-  sides_kept = beside_kept texts subject x kept told_run (record {
+  pub sides_kept : RunBehind texts subject taken told_run
+  sides_kept = beside_kept texts subject taken x kept told_run (record {
     holds = λ t c q there up r held. inl (c, q, subst (λ l. entry_at l t ≡ Some c) (sides_rest s g x sides).0 there, up, held, apart.history t, refl);
     story = λ kind. apart.story (stream_named subject kind) refl;
     answered = apart.answered;
@@ -224,9 +224,9 @@ module _ (texts : ℕ → Bytes) (subject s g : ℕ) (x : ServerRun) (kept : Run
 
 -- ---- a step of all
 
-module _ (texts : ℕ → Bytes) (subject : ℕ) (x : ServerRun) (laid : RunLaid x) (kept : RunKept texts subject x) (apart : AreApart subject x.servers) where
+module _ (texts : ℕ → Bytes) (subject : ℕ) (taken : Taken) (x : ServerRun) (laid : RunLaid x) (kept : RunBehind texts subject taken x) (apart : AreApart subject x.servers) where
   abbrev KeptThen : ServerRun → Type 0
-  KeptThen y = InOrder texts (view_at subject y 0) → RunKept texts subject y
+  KeptThen y = InOrder texts (view_at subject y 0) → RunBehind texts subject taken y
 
   module _ (s : ℕ) (cell : ServerCell) (st : ServerState) (at : entry_at x.servers s ≡ Some cell) (is : cell.state ≡ Some st) where
     abbrev Then : RangeEffect → ServerOutcome → ServerRun
@@ -235,12 +235,12 @@ module _ (texts : ℕ → Bytes) (subject : ℕ) (x : ServerRun) (laid : RunLaid
     effect_kept : (range : ℕ) (r : RangeState) → range_of st.ranges range ≡ Some r → (job : Option SplitJob) → split_of st.splits range ≡ job → (e : RangeEffect) (o : RangeOutcome) (later : Option SplitJob) → IsEffect IsAnyPair range r job e o later →
         (next : ServerState) (packets : List Packet) → next.ranges ≡ set_range st.ranges range o.after → LeavesSplit st.splits range later next.splits → KeptThen (Then e (record { after = next; packets = packets; notes = o.notes }))
     effect_kept range r held job split e o later (Own own actions after left_job step) next packets left splits order =
-        acts texts subject x laid kept s cell st at is r actions o later next packets range held (subst (λ j. IsStep IsAnyPair r j actions o later) (sym split) step) left splits order
+        acts texts subject taken x laid kept s cell st at is r actions o later next packets range held (subst (λ j. IsStep IsAnyPair r j actions o later) (sym split) step) left splits order
     effect_kept range r held job split e o later (None_done own after left_job step) next packets left splits order =
-        acts texts subject x laid kept s cell st at is r [] o later next packets range held (subst (λ j. IsStep IsAnyPair r j [] o later) (sym split) step) left splits order
+        acts texts subject taken x laid kept s cell st at is r [] o later next packets range held (subst (λ j. IsStep IsAnyPair r j [] o later) (sym split) step) left splits order
     effect_kept range r held job split e o later (OfOthers splitting d body after left_job step) next packets left splits order =
         subst (λ servers. KeptThen (with_outcome y (record { servers = slice_set servers (s - 1) (record cell { state = Some next }); packets = packets; notes = o.notes }))) rest
-        (acts texts subject y (sides_laid s splitting.generation x laid sides (sides_append d r splitting body)) (sides_kept texts subject s splitting.generation x kept sides others)
+        (acts texts subject taken y (sides_laid s splitting.generation x laid sides (sides_append d r splitting body)) (sides_kept texts subject taken s splitting.generation x kept sides others)
         s cell st (subst (λ l. entry_at l s ≡ Some cell) (sym rest) at) is r [] o later next packets range held (subst (λ j. IsStep IsAnyPair r j [] o later) (sym split) step) left splits) order
       where
         sides : List SideAction
@@ -256,12 +256,12 @@ module _ (texts : ℕ → Bytes) (subject : ℕ) (x : ServerRun) (laid : RunLaid
         rest = (sides_rest s splitting.generation x sides).0
 
     turn_kept : (e : RangeEffect) (o : ServerOutcome) → Turn IsAny IsAnyPair st e o → KeptThen (Then e o)
-    turn_kept e o (Idles next packets same splits) order = idles texts subject x laid kept s cell st at is next packets same splits
-    turn_kept e o (Opens range assigned d generation until next packets new splits) order = opens texts subject x laid kept s cell st at is range d generation until next packets new splits
+    turn_kept e o (Idles next packets same splits) order = idles texts subject taken x laid kept s cell st at is next packets same splits
+    turn_kept e o (Opens range assigned d generation until next packets new splits) order = opens texts subject taken x laid kept s cell st at is range d generation until next packets new splits
     turn_kept e o (Acts range r held effect ro later is_effect next packets left splits) order = effect_kept range r held (split_of st.splits range) refl effect ro later is_effect next packets left splits order
 
   -- whatever comes to servers none of whose splits makes the range
   pub step_kept : (notes : List TableNote) (y : ServerRun) → RunStep IsAny IsAnyPair x notes y → KeptThen y
-  step_kept notes y (Keeps servers packets like) order = keeps texts subject x laid kept servers packets like
-  step_kept notes y (Passes servers like) order = passes texts subject x laid kept servers like
+  step_kept notes y (Keeps servers packets like) order = keeps texts subject taken x laid kept servers packets like
+  step_kept notes y (Passes servers like) order = passes texts subject taken x laid kept servers like
   step_kept notes y (Turns s cell st at is e o turn) order = turn_kept s cell st at is e o turn order

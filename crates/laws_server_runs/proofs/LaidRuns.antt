@@ -1,6 +1,6 @@
 -- Whatever comes to servers, their ranges are in the order of their numbers, and the values of their layers stand within the bytes that
 -- loads have read or were shown, and that appends were answered for.
-use Rattle.std.proofs.Common.{◌≡◌, ℕ, zero, suc, ◌-◌, List, [], ◌∷◌, ◌++◌, false, ◌&&◌, ◌==◌, Option, Some, None, slice_get, slice_set, refl, sym, ap, ◌∙◌, subst, inl, inr, append-nil, if◌then◌else◌}
+use Rattle.std.proofs.Common.{◌≡◌, ◌⊎◌, ℕ, zero, suc, ◌-◌, List, [], ◌∷◌, ◌++◌, false, ◌&&◌, ◌==◌, Option, Some, None, slice_get, slice_set, refl, sym, ap, ◌∙◌, subst, inl, inr, append-nil, if◌then◌else◌}
 use Rattle.wire.specs.declared.streams.StreamKind.TheVariants as kinds
 use Rattle.std.specs.BTreeMap.{insert_entry}
 use Rattle.std.specs.Ordering.{nat_cmp}
@@ -16,21 +16,22 @@ use Rattle.model_streams.proofs.Tests.{if_elim}
 use Rattle.std.specs.List.{AllByRecursion}
 use Rattle.model_partition.specs.Servers.{ServerCell, first_pick, first_server, first_servers}
 use Rattle.model_histories.specs.StreamActions.{StreamAction, Reads, Forms, Stands, Shows, Finds, Stores, PlacedBytes, SideAction, split_sides}
-use Rattle.model_histories.specs.ServerRun.{ServerRun, RangeEffect, Begins, Does, Tells, Rests, ServerEvent, Takes, GivesUp, Checkpoints as EventCheckpoints, Splits, Stops, Starts, Moment, RangeHistory, first_history, cell_effect, with_effect, with_outcome, after_action, after_actions, after_sides, after_event, first_run, run_of}
+use Rattle.model_histories.specs.ServerRun.{ServerRun, RangeEffect, Begins, Does, Tells, Rests, ServerEvent, Takes, GivesUp, Checkpoints as EventCheckpoints, Splits, Stops, Starts, Moment, Builds, RangeHistory, first_history, cell_effect, with_effect, with_outcome, built_streams, after_action, after_actions, after_sides, after_event, first_run, run_of}
 use Rattle.laws_loads.proofs.Entries.{entry_set, entry_other}
 use Rattle.laws_loads.specs.RangeView.{RangeView, view_after_all}
 use Rattle.laws_server_runs.specs.Places.{IsWithin, placed_of, bytes_of, RangeLaid, RangeLaidIf, StepLaid, AreAscending, RunLaid}
 use Rattle.laws_server_runs.specs.RangeInvariant.{IsLonger}
 use Rattle.laws_server_runs.specs.RunInvariant.{view_at}
-use Rattle.laws_server_runs.specs.Turns.{IsStep, LeavesSplit, IsEffect, Own, None_done, OfOthers, Turn, Idles, Opens, Acts, outcome_of, HoldNoMore, RunStep, Keeps, Passes, Turns}
+use Rattle.laws_server_runs.specs.Turns.{IsStep, LeavesSplit, IsEffect, Own, None_done, OfOthers, Turn, Idles, Opens, Acts, outcome_of, IsOfServers, HoldNoMore, RunStep, Keeps, Passes, Turns}
 use Rattle.laws_server_runs.proofs.LaidBytes.{Covers, covers_both}
 use Rattle.laws_server_runs.proofs.LaidLayers.{within_behind}
 use Rattle.laws_server_runs.proofs.LaidSteps.{new_laid}
 use Rattle.laws_server_runs.proofs.LaidSplits.{AppendsRecord, laid_reads, laid_step}
 use Rattle.laws_server_runs.proofs.SideActions.{sides_append}
 use Rattle.laws_server_runs.proofs.RangeLists.{inserted_here, inserted_other, ascending_inserted, left_here, left_other, ascending_left}
-use Rattle.laws_server_runs.proofs.RunSteps.{IsAny, IsAnyPair, any_assigned, any_numbered, event_step}
-use Rattle.laws_server_runs.proofs.Actions.{same_test, other_test, actions_here, actions_apart, actions_rest, Longer, actions_longer, sides_rest, sides_longer}
+use Rattle.laws_server_runs.proofs.RunSteps.{IsAny, IsAnyPair, IsBuild, any_assigned, any_numbered, event_kind, event_step}
+use Rattle.laws_server_runs.proofs.Unmerged.{HaveNoMerges, unmerged}
+use Rattle.laws_server_runs.proofs.Actions.{same_test, other_test, actions_here, actions_apart, actions_rest, Longer, actions_longer, sides_rest, sides_longer, event_longer}
 
 -- ---- more bytes
 
@@ -319,12 +320,23 @@ effect_rests s x (Does range g actions) = (actions_rest s range g x actions).1
 effect_rests s x (Tells g sides) = (sides_rest s g x sides).1
 effect_rests s x Rests = refl
 
+-- streams are built
+built_laid : (x : ServerRun) → RunLaid x → (source range : ℕ) → RunLaid (built_streams source range x)
+built_laid x laid source range = record {
+  ascending = λ t c q there up. laid.ascending t c q there up;
+  ranges = λ t c q there up k r held.
+      laid_reads k (view_at k x t) (view_at k (built_streams source range x) t) r refl (run_covers x (built_streams source range x) (event_longer x (Builds source range)) k) (laid.ranges t c q there up k r held);
+  splits = λ t c q there up. laid.splits t c q there up;
+}
+
+event_laid : (x : ServerRun) → RunLaid x → HaveNoMerges x.servers → (event : ServerEvent) → IsOfServers event ⊎ IsBuild event → RunLaid (after_event x event)
+event_laid x laid whole event (inl is) = step_laid x laid (outcome_of x.servers event).notes (after_event x event) (event_step IsAny IsAnyPair x whole event is (any_assigned event) (any_numbered event))
+event_laid x laid whole event (inr build) = subst (λ e. RunLaid (after_event x e)) (sym build.2) (built_laid x laid build.0 build.1)
+
 module _ (batch servers : ℕ) where
   pub all_laid : (events : List ServerEvent) → RunLaid (run_of batch servers events)
   all_laid [] = first_laid batch servers
-  all_laid (event ∷ earlier) =
-      let x : ServerRun = run_of batch servers earlier in
-      step_laid x (all_laid earlier) (outcome_of x.servers event).notes (after_event x event) (event_step IsAny IsAnyPair x event (any_assigned event) (any_numbered event))
+  all_laid (event ∷ earlier) = event_laid (run_of batch servers earlier) (all_laid earlier) (unmerged batch servers earlier) event (event_kind event)
 
   -- what an event adds
   pub event_notes : (x : ServerRun) (event : ServerEvent) → (after_event x event).notes ≡ x.notes ++ (outcome_of x.servers event).notes
@@ -335,3 +347,4 @@ module _ (batch servers : ℕ) where
   event_notes x (Stops s call) = refl
   event_notes x (Starts s now batch) = refl
   event_notes x (Moment now) = sym (append-nil x.notes)
+  event_notes x (Builds source range) = sym (append-nil x.notes)

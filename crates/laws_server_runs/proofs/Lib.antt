@@ -2,6 +2,8 @@ pub mod Fronts
 pub mod Steps
 pub mod Loads
 pub mod LoadsSteps
+pub mod BuiltStreams
+pub mod FamilyRanges
 pub mod LoadsAnswers
 pub mod LoadsAnswered
 pub mod ConfirmedLoad
@@ -60,6 +62,8 @@ mod LaidCheckpoints
 mod LaidServed
 pub mod LaidSteps
 pub mod RangeLists
+pub mod StatesKept
+pub mod Unmerged
 pub mod Unsplit
 pub mod RunSteps
 pub mod Actions
@@ -79,4 +83,5 @@ pub mod Folding
 pub mod OneRegion
 pub mod WorkedRanges
 pub mod WorkedSplits
+mod WorkedChildren
 pub mod CheckpointActions

@@ -3,7 +3,7 @@
 use Rattle.std.proofs.Common.{ℕ, List, [], ◌∷◌, sym, subst}
 use Rattle.model_partition.specs.declared.table_note.TableNote.{TableNote}
 use Rattle.model_partition.specs.Past.{Bytes}
-use Rattle.model_histories.specs.ServedTables.{AreUnsplit, StreamsInOrder}
+use Rattle.model_histories.specs.ServedTables.{IsUnsplit, AreUnsplit, StreamsInOrder}
 use Rattle.model_histories.specs.ServerRun.{ServerRun, ServerEvent, after_event, run_of}
 use Rattle.laws_server_runs.specs.Places.{bytes_of, TablesWithin}
 use Rattle.laws_server_runs.specs.Turns.{outcome_of, RunStep}
@@ -13,12 +13,13 @@ use Rattle.laws_server_runs.proofs.LaidTables.{RecordsLaid, tables_later, tables
 use Rattle.laws_server_runs.proofs.RunSteps.{IsAny, IsAnyPair, any_assigned, any_numbered, event_step}
 use Rattle.laws_server_runs.proofs.Apart.{unsplit_apart}
 use Rattle.laws_server_runs.proofs.Theorem.{before, all_kept}
+use Rattle.laws_server_runs.proofs.Unmerged.{unmerged}
 use Rattle.laws_server_runs.proofs.Unsplit.{unsplit}
 
 module _ (texts : ℕ → Bytes) (batch servers : ℕ) where
   one_step : (event : ServerEvent) (earlier : List ServerEvent) → AreUnsplit (event ∷ earlier) →
       RunStep IsAny IsAnyPair (run_of batch servers earlier) (outcome_of (run_of batch servers earlier).servers event).notes (run_of batch servers (event ∷ earlier))
-  one_step event earlier are = event_step IsAny IsAnyPair (run_of batch servers earlier) event (any_assigned event) (any_numbered event)
+  one_step event earlier are = event_step IsAny IsAnyPair (run_of batch servers earlier) (unmerged batch servers earlier) event (λ source range e. subst IsUnsplit e are.0) (any_assigned event) (any_numbered event)
 
   -- what is premised of a range over a list of events
   abbrev Premise : List ServerEvent → ℕ → Type 0

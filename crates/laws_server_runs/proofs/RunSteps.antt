@@ -1,7 +1,5 @@
 -- Each event is a step of all servers, of which at most one takes a turn.
 use Rattle.std.proofs.Common.{◌≡◌, ◌⊎◌, not, ◌||◌, ℕ, suc, ◌-◌, ◌^◌, max, List, [], ◌∷◌, ◌++◌, map, Bool, true, false, ◌==◌, Option, Some, None, is_some, option_map, slice_set, nat_lt, refl, sym, ap, ◌∙◌, subst, inl, inr, if◌then◌else◌}
-use Rattle.std.specs.BTreeMap.{insert_entry}
-use Rattle.std.specs.Ordering.{nat_cmp}
 use Rattle.std.proofs.lemmas.Bool.{cases_eq}
 use Rattle.block_types.specs.declared.record.Nodes.{Nodes}
 use Rattle.wire.specs.declared.actor.ActorId.{ActorId}
@@ -21,7 +19,7 @@ use Rattle.wire.specs.declared.transaction.Change.{Change}
 use Rattle.client.specs.Load.{open_packet}
 use Rattle.model_streams.specs.Maps.{entry_at}
 use Rattle.model_partition.specs.declared.server_context.ServerContext.{ServerContext}
-use Rattle.model_partition.specs.Range.{RangeState, RangeOutcome, request, used, refuses, is_serving, is_paused}
+use Rattle.model_partition.specs.Range.{RangeState, RangeOutcome, request, refuses, is_serving, is_paused}
 use Rattle.model_partition.specs.Serving.{transact_rule}
 use Rattle.model_partition.specs.Getting.{get_rule}
 use Rattle.model_partition.specs.Answering.{answered_number, is_the_map, is_answerer, answer_rule, give_up_all}
@@ -31,12 +29,14 @@ use Rattle.model_partition.specs.Splits.{gives_up as gives_up_split}
 use Rattle.model_partition.specs.Map.{is_split_key}
 use Rattle.model_streams.proofs.Tests.{none_met}
 use Rattle.std.proofs.lemmas.List.{append-nil}
-use Rattle.model_partition.specs.Server.{ServerState, ServerOutcome, range_of, set_range, set_split, split_of, awaiting, split_awaiting, rests, sends_one, counted, ended_with, stepped, stepped_with, stepped_alone, stepped_splitting, split_stepped, split_answer_in, split_answer, new_range, is_newer, users_of, assign_rule, renew_rule, told_by_map, map_rule, transacts_in, gets_in, table_rule, answer_in, answer_of, numbered_rule, taken_rule, has_numbers, server_rule, moment_rule, given_up_splitting, given_up, gives_up, picked, give_up_rule, started, busy_if, checkpoint_refused, checkpoints_in, server_checkpoint, split_refused, splits_in, server_split}
+use Rattle.model_partition.specs.Server.{ServerState, ServerOutcome, range_of, set_range, split_of, awaiting, split_awaiting, rests, sends_one, counted, ended_with, stepped, stepped_with, stepped_alone, stepped_splitting, split_stepped, split_answer_in, split_answer, is_newer, merge_with, assigned as assigned_to, users_of, assign_rule, renew_rule, told_by_map, map_rule, transacts_in, gets_in, table_rule, answer_in, answer_of, numbered_rule, taken_rule, has_numbers, server_rule, moment_rule, given_up_splitting, given_up_with, given_up, gives_up, picked, give_up_rule, started, busy_if, has_jobs, checkpoint_refused, checkpoints_in, server_checkpoint, split_refused, splits_in, server_split}
 use Rattle.model_partition.specs.Servers.{ServerCell, cell_rests, cell_takes, cell_given_up, cell_gives_up, cell_checkpoints, cell_splits, cell_stops, cell_starts, at_server, first_pick, told_moment}
 use Rattle.model_histories.specs.StreamActions.{StreamAction, transact_actions, answer_actions, split_answered, split_stood, follow_actions, followed_actions, split_sides}
-use Rattle.model_histories.specs.ServerRun.{ServerRun, RangeEffect, Begins, Does, Tells, Rests as RestsSo, ServerEvent, Takes, GivesUp, Checkpoints, Splits, Stops, Starts, Moment, with_effect, with_outcome, after_event, told_effect, map_effect, transact_effect, follow_effect, get_effect, table_effect, answer_effect, split_effect_in, split_effect, awaited_effect, numbered_effect, packet_effect, server_effect, cell_effect}
+use Rattle.model_histories.specs.ServerRun.{ServerRun, RangeEffect, Begins, Does, Tells, Rests as RestsSo, ServerEvent, Takes, GivesUp, Checkpoints, Splits, Stops, Starts, Moment, Builds, with_effect, with_outcome, after_event, told_effect, map_effect, transact_effect, follow_effect, get_effect, table_effect, answer_effect, split_effect_in, split_effect, awaited_effect, numbered_effect, packet_effect, server_effect, cell_effect}
 use Rattle.laws_loads.proofs.Entries.{entry_set, entry_other, entry_unmapped}
-use Rattle.laws_server_runs.specs.Turns.{IsRule, Transacts, Answers, Gets, Yields, Checkpoints as BeginsCheckpoint, Renews, IsCalm, HasRoom, stood_by, with_split, of_split, IsStep, Alone, BeginsSplit, Drops, Follows, Leaves, Holds, Hears, IsEffect, Own, None_done, OfOthers, Turn, Idles, Opens, Acts, outcome_of, HoldNoMore, RunStep, Keeps, Passes, Turns}
+use Rattle.laws_server_runs.specs.Turns.{IsRule, Transacts, Answers, Gets, Yields, Checkpoints as BeginsCheckpoint, Renews, IsCalm, HasRoom, stood_by, with_split, of_split, IsStep, Alone, BeginsSplit, Drops, Follows, Leaves, Holds, Hears, IsEffect, Own, None_done, OfOthers, Turn, Idles, Opens, Acts, outcome_of, IsOfServers, HoldNoMore, RunStep, Keeps, Passes, Turns}
+use Rattle.laws_server_runs.proofs.StatesKept.{opened}
+use Rattle.laws_server_runs.proofs.Unmerged.{HasNoMerge, HaveNoMerges, stepped_unmerged, given_up_unmerged, assigned_unmerged, answer_unmerged, unawaited_merge, jobs_unmerged}
 use Rattle.laws_server_runs.proofs.Unsplit.{not_refused}
 
 -- ---- what the map assigns
@@ -61,6 +61,7 @@ any_assigned (Splits s range key) = tt
 any_assigned (Stops s call) = tt
 any_assigned (Starts s now batch) = tt
 any_assigned (Moment now) = tt
+any_assigned (Builds source range) = tt
 
 -- ---- tests
 
@@ -113,6 +114,21 @@ any_numbered (Splits s range key) = tt
 any_numbered (Stops s call) = tt
 any_numbered (Starts s now batch) = tt
 any_numbered (Moment now) = tt
+any_numbered (Builds source range) = tt
+
+-- an event comes to servers, or builds streams
+abbrev pub IsBuild : ServerEvent → Type 0
+IsBuild event = (source : ℕ) × (range : ℕ) × (event ≡ Builds source range)
+
+pub event_kind : (event : ServerEvent) → IsOfServers event ⊎ IsBuild event
+event_kind (Takes s p) = inl (λ source range e. absurd cc)
+event_kind (GivesUp s range pick) = inl (λ source range e. absurd cc)
+event_kind (Checkpoints s range combine) = inl (λ source range e. absurd cc)
+event_kind (Splits s range key) = inl (λ source range e. absurd cc)
+event_kind (Stops s call) = inl (λ source range e. absurd cc)
+event_kind (Starts s now batch) = inl (λ source range e. absurd cc)
+event_kind (Moment now) = inl (λ source range e. absurd cc)
+event_kind (Builds source range) = inr (source, range, refl)
 
 -- ---- one server
 
@@ -123,7 +139,8 @@ the_map actors.Manager e = absurd cc
 the_map (actors.Server t) e = absurd cc
 the_map (actors.User u) e = absurd cc
 
-module _ (IsAssigned : ℕ → Type 0) (IsNumbered : (low high : ℕ) → Type 0) (st : ServerState) where
+-- one that has no merge
+module _ (IsAssigned : ℕ → Type 0) (IsNumbered : (low high : ℕ) → Type 0) (st : ServerState) (whole : HasNoMerge st) where
   abbrev TurnOf : RangeEffect → ServerOutcome → Type 0
   TurnOf = Turn IsAssigned IsNumbered st
 
@@ -171,7 +188,8 @@ module _ (IsAssigned : ℕ → Type 0) (IsNumbered : (low high : ℕ) → Type 0
   transact_turn : (p : Packet) (range : ℕ) (changes : List Change) (q : ReqNo) (known : Option RangeState) → range_of st.ranges range ≡ known →
       TurnOf (transact_effect st p range changes q known) (transacts_in st p range changes q known)
   transact_turn p range changes q None held = sends_turn (refuses st.context p.from q refusals.NotOwner)
-  transact_turn p range changes q (Some r) held = by (split_of st.splits range) refl
+  transact_turn p range changes q (Some r) held =
+      subst (TurnOf (transact_effect st p range changes q (Some r))) (sym (stepped_unmerged st whole range o)) (by (split_of st.splits range) refl)
     where
       o : RangeOutcome
       o = transact_rule st.context r p.from q changes
@@ -185,7 +203,7 @@ module _ (IsAssigned : ℕ → Type 0) (IsNumbered : (low high : ℕ) → Type 0
 
   get_turn : (p : Packet) (range : ℕ) (key : List ℕ) (q : ReqNo) (known : Option RangeState) → range_of st.ranges range ≡ known → TurnOf (get_effect st p range key q known) (gets_in st p range key q known)
   get_turn p range key q None held = sends_turn (refuses st.context p.from q refusals.NotOwner)
-  get_turn p range key q (Some r) held = by (split_of st.splits range) refl
+  get_turn p range key q (Some r) held = subst (TurnOf (get_effect st p range key q (Some r))) (sym (stepped_unmerged st whole range o)) (by (split_of st.splits range) refl)
     where
       o : RangeOutcome
       o = get_rule st.context r p.from q key
@@ -205,23 +223,16 @@ module _ (IsAssigned : ℕ → Type 0) (IsNumbered : (low high : ℕ) → Type 0
   assign_turn range generation until assigned = go (is_newer generation (range_of st.ranges range))
     where
       begun : ServerState
-      begun = record {
-        context = used st.context;
-        ranges = insert_entry nat_cmp st.ranges range (new_range st.context range generation until);
-        splits = set_split st.splits range None;
-      }
+      begun = opened st range generation until
+
+      packets : List Packet
+      packets = users_of st.context (range_of st.ranges range) ++ open_packet st.context.server range generation (request st.context) ∷ []
 
       go : (b : Bool) →
-          TurnOf (if b then Begins range else RestsSo)
-          (if b then record {
-            after = begun;
-            packets = users_of st.context (range_of st.ranges range) ++ open_packet st.context.server range generation (request st.context) ∷ [];
-            notes = [];
-          }
-          else rests st)
+          TurnOf (if b then Begins range else RestsSo) (if b then record { after = assigned_to begun (merge_with st.merges range); packets = packets; notes = [] } else rests st)
       go true =
-          Opens range assigned st.context generation until begun
-          (users_of st.context (range_of st.ranges range) ++ open_packet st.context.server range generation (request st.context) ∷ []) refl refl
+          subst (λ z. TurnOf (Begins range) (record { after = z; packets = packets; notes = [] })) (sym (assigned_unmerged st whole begun range))
+          (Opens range assigned st.context generation until begun packets refl refl)
       go false = rests_turn
 
   renew_turn : (range generation until : ℕ) (known : Option RangeState) → range_of st.ranges range ≡ known → TurnOf RestsSo (renew_rule st range generation until known)
@@ -259,7 +270,7 @@ module _ (IsAssigned : ℕ → Type 0) (IsNumbered : (low high : ℕ) → Type 0
 
   answer_turn : has_numbers st.context ≡ true → (p : Packet) (w : ReqNo) (range : ℕ) (known : Option RangeState) → range_of st.ranges range ≡ known → TurnOf (answer_effect st p w range known) (answer_in st p w range known)
   answer_turn room p w range None held = rests_turn
-  answer_turn room p w range (Some r) held = by (split_of st.splits range) refl
+  answer_turn room p w range (Some r) held = subst (TurnOf (answer_effect st p w range (Some r))) (sym (answer_unmerged st whole p w range r)) (by (split_of st.splits range) refl)
     where
       o : RangeOutcome
       o = answer_rule st.context r w p.body
@@ -289,12 +300,12 @@ module _ (IsAssigned : ℕ → Type 0) (IsNumbered : (low high : ℕ) → Type 0
       t : SplitStep
       t = split_reply st.context r job p.body
 
-  split_turn_of : (p : Packet) → ((w : ReqNo) (low high : ℕ) → p.body ≡ bodies.Map (maps.SplitBegun w low high) → IsNumbered low high) → (range : Option ℕ) → TurnOf (split_effect st p range) (split_answer st p range)
-  split_turn_of p numbered None = rests_turn
-  split_turn_of p numbered (Some range) = split_in_turn p numbered range (range_of st.ranges range) refl (split_of st.splits range) refl
+  split_turn_of : (p : Packet) → ((w : ReqNo) (low high : ℕ) → p.body ≡ bodies.Map (maps.SplitBegun w low high) → IsNumbered low high) → (w : ReqNo) (range : Option ℕ) → TurnOf (split_effect st p range) (split_answer st p w range)
+  split_turn_of p numbered w None = subst (TurnOf RestsSo) (sym (unawaited_merge st whole p w)) rests_turn
+  split_turn_of p numbered w (Some range) = split_in_turn p numbered range (range_of st.ranges range) refl (split_of st.splits range) refl
 
   awaited_turn : has_numbers st.context ≡ true → (p : Packet) → ((w : ReqNo) (low high : ℕ) → p.body ≡ bodies.Map (maps.SplitBegun w low high) → IsNumbered low high) → (w : ReqNo) (range : Option ℕ) → TurnOf (awaited_effect st p w range) (answer_of st p w range)
-  awaited_turn room p numbered w None = split_turn_of p numbered (split_awaiting st.splits w)
+  awaited_turn room p numbered w None = split_turn_of p numbered w (split_awaiting st.splits w)
   awaited_turn room p numbered w (Some range) = answer_turn room p w range (range_of st.ranges range) refl
 
   numbered_turn : has_numbers st.context ≡ true → (p : Packet) → Numbers IsNumbered p.from p.body → (w : Option ReqNo) → TurnOf (numbered_effect st p w) (numbered_rule st p w)
@@ -345,46 +356,49 @@ module _ (IsAssigned : ℕ → Type 0) (IsNumbered : (low high : ℕ) → Type 0
           (subst (λ j. IsEffect IsNumbered range r j RestsSo (with_split own t) t.job) (sym some) (None_done (Some job) (with_split own t) t.job (Leaves job now.context (counted now.context own) z there)))
           (given_up_splitting now range job own (Some z)).after (own.packets ++ t.packets) refl (inr refl)
 
-      by : (r : RangeState) → range_of st.ranges range ≡ Some r → (job : Option SplitJob) → split_of st.splits range ≡ job → TurnOf RestsSo (given_up now range job (give_up_all now.context r))
+      by : (r : RangeState) → range_of st.ranges range ≡ Some r → (job : Option SplitJob) → split_of st.splits range ≡ job → TurnOf RestsSo (given_up_with now range job (give_up_all now.context r))
       by r held None none =
           let ro : RangeOutcome = give_up_all now.context r in
           Acts range r held RestsSo ro None (subst (λ j. IsEffect IsNumbered range r j RestsSo ro None) (sym none) (None_done None ro None (Alone [] ro (Yields now.context))))
           (stepped_alone now range ro).after ro.packets refl (inl (refl, none))
       by r held (Some job) some = left r held job some (give_up_all now.context r).after refl
 
-      go : (r : RangeState) → range_of st.ranges range ≡ Some r → (b : Bool) → TurnOf RestsSo (if b then given_up now range (split_of st.splits range) (give_up_all now.context r) else rests now)
-      go r held true = by r held (split_of st.splits range) refl
+      go : (r : RangeState) → range_of st.ranges range ≡ Some r → (b : Bool) → TurnOf RestsSo (if b then given_up now range (merge_with st.merges range) (give_up_all now.context r) else rests now)
+      go r held true = subst (TurnOf RestsSo) (sym (given_up_unmerged now whole range (give_up_all now.context r))) (by r held (split_of st.splits range) refl)
       go r held false = Idles now [] refl refl
 
       known : (x : Option RangeState) → range_of st.ranges range ≡ x → gives_up now range x ≡ Some o → TurnOf RestsSo o
       known None held e = absurd cc
       known (Some r) held e =
-          let same : (if has_numbers now.context then given_up now range (split_of st.splits range) (give_up_all now.context r) else rests now) ≡ o = cc in
+          let same : (if has_numbers now.context then given_up now range (merge_with st.merges range) (give_up_all now.context r) else rests now) ≡ o = cc in
           subst (λ z. TurnOf RestsSo z) same (go r held (has_numbers now.context))
+
+  jobs_are : (range : ℕ) (job : Option SplitJob) → split_of st.splits range ≡ job → has_jobs st range ≡ is_some job
+  jobs_are range job is = jobs_unmerged st whole range ∙ ap is_some is
 
   -- to make a checkpoint
   checkpoint_turn : (range : ℕ) (combine : Bool) → TurnOf RestsSo (server_checkpoint st range combine)
-  checkpoint_turn range combine = by (range_of st.ranges range) refl (split_of st.splits range) refl (checkpoint_refused (is_some (split_of st.splits range)) (range_of st.ranges range)) refl
+  checkpoint_turn range combine = by (range_of st.ranges range) refl (split_of st.splits range) refl (checkpoint_refused (has_jobs st range) (range_of st.ranges range)) refl
     where
       begins : (r : RangeState) → range_of st.ranges range ≡ Some r → split_of st.splits range ≡ None → checkpoint_fault r ≡ None → (b : Bool) → TurnOf RestsSo (if b then stepped st range (checkpoint_rule st.context r combine) else rests st)
       begins r held none may true =
           let o : RangeOutcome = checkpoint_rule st.context r combine in
-          subst (λ j. TurnOf RestsSo (stepped_with st range j o)) (sym none)
-          (alone_turn range r held [] o (BeginsCheckpoint st.context combine may) none RestsSo (None_done None o None (Alone [] o (BeginsCheckpoint st.context combine may))))
+          subst (TurnOf RestsSo) (sym (stepped_unmerged st whole range o)) (subst (λ j. TurnOf RestsSo (stepped_with st range j o)) (sym none)
+          (alone_turn range r held [] o (BeginsCheckpoint st.context combine may) none RestsSo (None_done None o None (Alone [] o (BeginsCheckpoint st.context combine may)))))
       begins r held none may false = rests_turn
 
-      by : (known : Option RangeState) → range_of st.ranges range ≡ known → (job : Option SplitJob) → split_of st.splits range ≡ job → (fault : Option Refusal) → checkpoint_refused (is_some (split_of st.splits range)) (range_of st.ranges range) ≡ fault →
+      by : (known : Option RangeState) → range_of st.ranges range ≡ known → (job : Option SplitJob) → split_of st.splits range ≡ job → (fault : Option Refusal) → checkpoint_refused (has_jobs st range) (range_of st.ranges range) ≡ fault →
           TurnOf RestsSo (if is_some fault then rests st else checkpoints_in st range combine (range_of st.ranges range))
       by known held job is (Some why) e = rests_turn
-      by None held job is None e = absurd (let z : Some refusals.NotOwner ≡ None = sym (ap (checkpoint_refused (is_some (split_of st.splits range))) held) ∙ e in cc)
-      by (Some r) held (Some job) is None e = absurd (busy_no (checkpoint_fault r) (sym (λ i. checkpoint_refused (is_some (is i)) (held i)) ∙ e))
+      by None held job is None e = absurd (let z : Some refusals.NotOwner ≡ None = sym (ap (checkpoint_refused (has_jobs st range)) held) ∙ e in cc)
+      by (Some r) held (Some job) is None e = absurd (busy_no (checkpoint_fault r) (sym (λ i. checkpoint_refused (jobs_are range (Some job) is i) (held i)) ∙ e))
       by (Some r) held None is None e =
           subst (λ x. TurnOf RestsSo (checkpoints_in st range combine x)) (sym held)
-          (begins r held is (not_refused false (checkpoint_fault r) (sym (λ i. checkpoint_refused (is_some (is i)) (held i)) ∙ e)) (has_numbers st.context))
+          (begins r held is (not_refused false (checkpoint_fault r) (sym (λ i. checkpoint_refused (jobs_are range None is i) (held i)) ∙ e)) (has_numbers st.context))
 
   -- to split a range
   splits_turn : (range : ℕ) (key : List ℕ) → TurnOf RestsSo (server_split st range key)
-  splits_turn range key = by (range_of st.ranges range) refl (split_of st.splits range) refl (split_refused (is_some (split_of st.splits range)) key (range_of st.ranges range)) refl
+  splits_turn range key = by (range_of st.ranges range) refl (split_of st.splits range) refl (split_refused (has_jobs st range) key (range_of st.ranges range)) refl
     where
       begins : (r : RangeState) → range_of st.ranges range ≡ Some r → split_of st.splits range ≡ None → split_fault r false key ≡ None → (b : Bool) → TurnOf RestsSo (if b then split_stepped st range (split_rule st.context r key) else rests st)
       begins r held none may true =
@@ -396,18 +410,18 @@ module _ (IsAssigned : ℕ → Type 0) (IsNumbered : (low high : ℕ) → Type 0
           (split_stepped st range t).after t.packets refl (inr refl)
       begins r held none may false = rests_turn
 
-      by : (known : Option RangeState) → range_of st.ranges range ≡ known → (job : Option SplitJob) → split_of st.splits range ≡ job → (fault : Option Refusal) → split_refused (is_some (split_of st.splits range)) key (range_of st.ranges range) ≡ fault →
+      by : (known : Option RangeState) → range_of st.ranges range ≡ known → (job : Option SplitJob) → split_of st.splits range ≡ job → (fault : Option Refusal) → split_refused (has_jobs st range) key (range_of st.ranges range) ≡ fault →
           TurnOf RestsSo (if is_some fault then rests st else splits_in st range key (range_of st.ranges range))
       by known held job is (Some why) e = rests_turn
-      by None held job is None e = absurd (let z : Some refusals.NotOwner ≡ None = sym (ap (split_refused (is_some (split_of st.splits range)) key) held) ∙ e in cc)
-      by (Some r) held (Some job) is None e = absurd (split_busy r key (sym (λ i. split_refused (is_some (is i)) key (held i)) ∙ e))
+      by None held job is None e = absurd (let z : Some refusals.NotOwner ≡ None = sym (ap (split_refused (has_jobs st range) key) held) ∙ e in cc)
+      by (Some r) held (Some job) is None e = absurd (split_busy r key (sym (λ i. split_refused (jobs_are range (Some job) is i) key (held i)) ∙ e))
       by (Some r) held None is None e =
           subst (λ x. TurnOf RestsSo (splits_in st range key x)) (sym held)
-          (begins r held is (sym (λ i. split_refused (is_some (is i)) key (held i)) ∙ e) (has_numbers st.context))
+          (begins r held is (sym (λ i. split_refused (jobs_are range None is i) key (held i)) ∙ e) (has_numbers st.context))
 
 -- ---- all servers
 
-module _ (IsAssigned : ℕ → Type 0) (IsNumbered : (low high : ℕ) → Type 0) (x : ServerRun) where
+module _ (IsAssigned : ℕ → Type 0) (IsNumbered : (low high : ℕ) → Type 0) (x : ServerRun) (whole : HaveNoMerges x.servers) where
   -- there is no such server
   nobody : RunStep IsAssigned IsNumbered x [] (with_outcome x (record { servers = x.servers; packets = []; notes = [] }))
   nobody = Keeps x.servers [] (λ t c q there up. inr (c, q, there, up, refl, refl))
@@ -442,7 +456,7 @@ module _ (IsAssigned : ℕ → Type 0) (IsNumbered : (low high : ℕ) → Type 0
           RunStep IsAssigned IsNumbered x (cell_takes cell p o).notes (with_outcome (with_effect s x (server_effect p o))
           (record { servers = slice_set x.servers (s - 1) (cell_takes cell p o).cell; packets = (cell_takes cell p o).packets; notes = (cell_takes cell p o).notes }))
       by_state cell at None is = one_keeps s cell at cell (same_cell cell)
-      by_state cell at (Some st) is = Turns s cell st at is (server_effect p (Some st)) (server_rule st p p.body) (packet_turn IsAssigned IsNumbered st p assigned numbered)
+      by_state cell at (Some st) is = Turns s cell st at is (server_effect p (Some st)) (server_rule st p p.body) (packet_turn IsAssigned IsNumbered st (whole s cell at st is) p assigned numbered)
 
       go : (o : Option ServerCell) → entry_at x.servers s ≡ o →
           RunStep IsAssigned IsNumbered x (at_server x.servers s (λ cell. cell_takes cell p cell.state) o).notes (with_outcome (with_effect s x (cell_effect p o)) (at_server x.servers s (λ cell. cell_takes cell p cell.state) o))
@@ -456,7 +470,7 @@ module _ (IsAssigned : ℕ → Type 0) (IsNumbered : (low high : ℕ) → Type 0
           RunStep IsAssigned IsNumbered x (cell_given_up cell o).notes (with_outcome x
           (record { servers = slice_set x.servers (s - 1) (cell_given_up cell o).cell; packets = (cell_given_up cell o).packets; notes = (cell_given_up cell o).notes }))
       by_rule cell st at is None e = one_keeps s cell at cell (same_cell cell)
-      by_rule cell st at is (Some o) e = Turns s cell st at is RestsSo o (give_up_turn IsAssigned IsNumbered st range pick o e)
+      by_rule cell st at is (Some o) e = Turns s cell st at is RestsSo o (give_up_turn IsAssigned IsNumbered st (whole s cell at st is) range pick o e)
 
       by_state : (cell : ServerCell) → entry_at x.servers s ≡ Some cell → (o : Option ServerState) → cell.state ≡ o →
           RunStep IsAssigned IsNumbered x (cell_gives_up cell range pick o).notes (with_outcome x
@@ -476,7 +490,7 @@ module _ (IsAssigned : ℕ → Type 0) (IsNumbered : (low high : ℕ) → Type 0
           RunStep IsAssigned IsNumbered x (cell_checkpoints cell range combine o).notes (with_outcome x
           (record { servers = slice_set x.servers (s - 1) (cell_checkpoints cell range combine o).cell; packets = (cell_checkpoints cell range combine o).packets; notes = (cell_checkpoints cell range combine o).notes }))
       by_state cell at None is = one_keeps s cell at cell (same_cell cell)
-      by_state cell at (Some st) is = Turns s cell st at is RestsSo (server_checkpoint st range combine) (checkpoint_turn IsAssigned IsNumbered st range combine)
+      by_state cell at (Some st) is = Turns s cell st at is RestsSo (server_checkpoint st range combine) (checkpoint_turn IsAssigned IsNumbered st (whole s cell at st is) range combine)
 
       go : (o : Option ServerCell) → entry_at x.servers s ≡ o →
           RunStep IsAssigned IsNumbered x (at_server x.servers s (λ cell. cell_checkpoints cell range combine cell.state) o).notes (with_outcome x (at_server x.servers s (λ cell. cell_checkpoints cell range combine cell.state) o))
@@ -490,7 +504,7 @@ module _ (IsAssigned : ℕ → Type 0) (IsNumbered : (low high : ℕ) → Type 0
           RunStep IsAssigned IsNumbered x (cell_splits cell range key o).notes (with_outcome x
           (record { servers = slice_set x.servers (s - 1) (cell_splits cell range key o).cell; packets = (cell_splits cell range key o).packets; notes = (cell_splits cell range key o).notes }))
       by_state cell at None is = one_keeps s cell at cell (same_cell cell)
-      by_state cell at (Some st) is = Turns s cell st at is RestsSo (server_split st range key) (splits_turn IsAssigned IsNumbered st range key)
+      by_state cell at (Some st) is = Turns s cell st at is RestsSo (server_split st range key) (splits_turn IsAssigned IsNumbered st (whole s cell at st is) range key)
 
       go : (o : Option ServerCell) → entry_at x.servers s ≡ o →
           RunStep IsAssigned IsNumbered x (at_server x.servers s (λ cell. cell_splits cell range key cell.state) o).notes (with_outcome x (at_server x.servers s (λ cell. cell_splits cell range key cell.state) o))
@@ -540,11 +554,12 @@ module _ (IsAssigned : ℕ → Type 0) (IsNumbered : (low high : ℕ) → Type 0
           inr (b, st, at, e, sym (ap (λ (y : ServerState). y.ranges) same), sym (ap (λ (y : ServerState). y.splits) same))
 
   -- whatever comes
-  pub event_step : (event : ServerEvent) → AllAssigned IsAssigned event → AllNumbered IsNumbered event → RunStep IsAssigned IsNumbered x (outcome_of x.servers event).notes (after_event x event)
-  event_step (Takes s p) assigned numbered = takes_step s p assigned numbered
-  event_step (GivesUp s range pick) assigned numbered = gives_up_step s range pick
-  event_step (Checkpoints s range combine) assigned numbered = checkpoints_step s range combine
-  event_step (Splits s range key) assigned numbered = splits_step s range key
-  event_step (Stops s call) assigned numbered = stops_step s call
-  event_step (Starts s now batch) assigned numbered = starts_step s now batch
-  event_step (Moment now) assigned numbered = Passes (map (told_moment now) x.servers) (moment_like now)
+  pub event_step : (event : ServerEvent) → IsOfServers event → AllAssigned IsAssigned event → AllNumbered IsNumbered event → RunStep IsAssigned IsNumbered x (outcome_of x.servers event).notes (after_event x event)
+  event_step (Takes s p) is assigned numbered = takes_step s p assigned numbered
+  event_step (GivesUp s range pick) is assigned numbered = gives_up_step s range pick
+  event_step (Checkpoints s range combine) is assigned numbered = checkpoints_step s range combine
+  event_step (Splits s range key) is assigned numbered = splits_step s range key
+  event_step (Stops s call) is assigned numbered = stops_step s call
+  event_step (Starts s now batch) is assigned numbered = starts_step s now batch
+  event_step (Moment now) is assigned numbered = Passes (map (told_moment now) x.servers) (moment_like now)
+  event_step (Builds source range) is assigned numbered = absurd (is source range refl)

@@ -1,5 +1,5 @@
 -- A step of a range at one server keeps what is kept of it at all servers.
-use Rattle.std.proofs.Common.{◌≡◌, ⊎_elim, ℕ, suc, ◌-◌, List, ◌++◌, true, ◌&&◌, ◌==◌, Some, Option, slice_set, refl, sym, ap, ◌∙◌, subst, inl, inr, arith}
+use Rattle.std.proofs.Common.{◌≡◌, ⊎_elim, ℕ, suc, ◌-◌, List, [], ◌∷◌, ◌++◌, true, ◌&&◌, ◌==◌, Some, Option, slice_set, refl, sym, ap, ◌∙◌, subst, inl, inr, arith, append_assoc}
 use Rattle.std.proofs.lemmas.Bool.{cases_eq}
 use Rattle.wire.specs.declared.note.Note.{Note}
 use Rattle.wire.specs.declared.packet.Packet.{Packet}
@@ -18,10 +18,10 @@ use Rattle.model_histories.specs.ServedTables.{AreSeenAs, ServesAt}
 use Rattle.laws_loads.proofs.Entries.{entry_set, entry_other}
 use Rattle.laws_loads.specs.RangeView.{RangeView, view_after_all}
 use Rattle.laws_tables.specs.Runs.{Run, IsServing}
-use Rattle.laws_server_runs.specs.RangeInvariant.{StageIs, RangeKept, StreamsKept, AreObserved, GoesOn, Rests, IsLonger, IsAlone, ServesAnew}
-use Rattle.laws_server_runs.specs.RunInvariant.{view_at, with_stage, HeldKept, HeldIf, TurnKept, RunKept}
+use Rattle.laws_server_runs.specs.RangeInvariant.{StageIs, RangeKept, StreamsKept, AreObserved, GoesOn, Rests, Adds, IsLonger, IsAlone, ServesAnew}
+use Rattle.laws_server_runs.specs.RunInvariant.{view_at, with_stage, HeldKept, HeldIf, TurnKept, Taken, RunBehind}
 use Rattle.laws_server_runs.proofs.Actions.{other_test, actions_here, actions_apart, actions_rest}
-use Rattle.laws_server_runs.proofs.Fronts.{SeenBoth, seen_both}
+use Rattle.laws_server_runs.proofs.Fronts.{SeenBoth, seen_both, longer_twice}
 use Rattle.laws_server_runs.proofs.Others.{streams_same, others_kept}
 use Rattle.laws_server_runs.proofs.OwnNotes.{only_both}
 
@@ -39,10 +39,15 @@ module _ (texts : ℕ → Bytes) (subject : ℕ) where
       by stages.Confirming b e = absurd cc
 
   -- the range that is served at a server, and what is kept of it
-  pub kept_at : (x : ServerRun) (k : RunKept texts subject x) (t : ℕ) (u : RangeState) (at : ServesAt x t subject u) → HeldKept texts subject k.run (view_at subject x t) u (split_of at.state.splits subject)
-  kept_at x k t u at = k.ranges t at.cell at.state at.there at.runs u at.held
+  pub kept_at : (taken : Taken) (x : ServerRun) (k : RunBehind texts subject taken x) (t : ℕ) (u : RangeState) (at : ServesAt x t subject u) → HeldKept texts subject k.run (view_at subject x t) u (split_of at.state.splits subject)
+  kept_at taken x k t u at = k.ranges t at.cell at.state at.there at.runs u at.held
 
-  module _ (x : ServerRun) (k : RunKept texts subject x) (s : ℕ) (cell : ServerCell) (st : ServerState) (at : entry_at x.servers s ≡ Some cell) (is : cell.state ≡ Some st)
+  -- a run that goes on has all that it had
+  goes_behind : (g : ℕ) (run next : Run) → GoesOn g run next → IsLonger run next
+  goes_behind g run next Rests = ([], refl)
+  goes_behind g run next (Adds event earlier on under) = let more : IsLonger run earlier = goes_behind g run earlier on in (event ∷ more.0, ap (λ l. event ∷ l) more.1)
+
+  module _ (taken : Taken) (x : ServerRun) (k : RunBehind texts subject taken x) (s : ℕ) (cell : ServerCell) (st : ServerState) (at : entry_at x.servers s ≡ Some cell) (is : cell.state ≡ Some st)
       (r : RangeState) (held : range_of st.ranges subject ≡ Some r) (actions : List StreamAction) (o : RangeOutcome) (later : Option SplitJob)
       (step : TurnKept texts subject k.run (view_at subject x s) r actions o later)
       (own_seen : (notes : List Note) → AreSeenAs texts o.notes notes → only subject notes ≡ notes)
@@ -150,7 +155,7 @@ module _ (texts : ℕ → Bytes) (subject : ℕ) where
         let theirs : ServesAt x t subject w = before t apart w two in
         let equal : g ≡ w.load.generation = sym mine.generation ∙ same in
         ⊎_elim {C = ⊥} (λ served. apart (k.own t s w r theirs (r_serves served) (sym equal)))
-        (λ none. none (subst (λ z. IsServing k.run z) (sym equal) (shown_at k.run (with_stage (view_at subject x t) (kept_at x k t w theirs).split) w (kept_at x k t w theirs).range theirs.serves)))
+        (λ none. none (subst (λ z. IsServing k.run z) (sym equal) (shown_at k.run (with_stage (view_at subject x t) (kept_at taken x k t w theirs).split) w (kept_at taken x k t w theirs).range theirs.serves)))
         mine.was
 
     own_one : (a b : ℕ) (u w : RangeState) → ServesAt next_run a subject u → ServesAt next_run b subject w → u.load.generation ≡ w.load.generation → a ≡ b
@@ -167,17 +172,18 @@ module _ (texts : ℕ → Bytes) (subject : ℕ) where
 
     -- ---- what is seen
 
-    all_seen : (notes : List Note) → AreSeenAs texts next_run.notes notes → AreObserved texts subject step.next (only subject notes)
+    all_seen : (notes : List Note) → AreSeenAs texts next_run.notes notes → AreObserved texts subject step.next (taken.notes ++ only subject notes)
     all_seen notes seen =
         let b : SeenBoth texts y.notes o.notes notes = seen_both texts y.notes o.notes notes seen in
-        let old : AreObserved texts subject k.run (only subject b.before) = k.seen b.before (subst (λ l. AreSeenAs texts l b.before) (actions_rest s subject g x actions).1 b.first_seen) in
-        let new : AreObserved texts subject step.next (only subject b.before ++ b.later) = step.seen (only subject b.before) b.later old b.second_seen in
+        let old : AreObserved texts subject k.run (taken.notes ++ only subject b.before) = k.seen b.before (subst (λ l. AreSeenAs texts l b.before) (actions_rest s subject g x actions).1 b.first_seen) in
+        let new : AreObserved texts subject step.next ((taken.notes ++ only subject b.before) ++ b.later) = step.seen (taken.notes ++ only subject b.before) b.later old b.second_seen in
         let all : only subject notes ≡ only subject b.before ++ b.later = ap (only subject) b.is ∙ only_both subject b.before b.later ∙ ap (λ l. only subject b.before ++ l) (own_seen b.later b.second_seen) in
-        subst (λ l. AreObserved texts subject step.next l) (sym all) new
+        subst (λ l. AreObserved texts subject step.next l) (append_assoc taken.notes (only subject b.before) b.later ∙ sym (ap (λ l. taken.notes ++ l) all)) new
 
-    pub stepped_kept : RunKept texts subject next_run
+    pub stepped_kept : RunBehind texts subject taken next_run
     stepped_kept = record {
       run = step.next;
+      behind = longer_twice taken.run k.run step.next k.behind (goes_behind g k.run step.next step.goes);
       ranges = all_ranges;
       own = own_one;
       streams = streams_same texts step.next (view_at subject next_run s) (view_at subject next_run 0) refl refl (subst (λ v. StreamsKept texts step.next v) (sym here) step.streams);

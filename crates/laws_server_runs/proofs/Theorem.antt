@@ -1,5 +1,5 @@
 -- Servers over any streams that keep their order: what they load replays, and a served range is at the line of its generation.
-use Rattle.std.proofs.Common.{◌≡◌, ℕ, List, [], ◌∷◌, Some, None, refl, sym, ap, ◌∙◌, subst}
+use Rattle.std.proofs.Common.{◌≡◌, ◌⊎◌, ℕ, List, [], ◌∷◌, Some, None, refl, sym, ap, ◌∙◌, subst, inl, inr}
 use Rattle.wire.specs.declared.note.Note.{Note}
 use Rattle.model_partition.specs.Loading.{Group}
 use Rattle.model_histories.specs.Log.{only}
@@ -15,17 +15,20 @@ use Rattle.laws_tables.proofs.Ends.{renamed_ends_rise}
 use Rattle.laws_tables.proofs.Final.{tables_of_first_range_replay}
 use Rattle.laws_checkpoints.specs.IndexLayers.{layer_at}
 use Rattle.laws_server_runs.specs.RangeInvariant.{InOrder, AreObserved}
-use Rattle.laws_server_runs.specs.RunInvariant.{view_at, with_stage, HeldKept, RunKept}
+use Rattle.laws_server_runs.specs.RunInvariant.{view_at, with_stage, HeldKept, AreApart, nothing_taken, RunKept}
 use Rattle.laws_loads.specs.RangeView.{RangeView}
-use Rattle.laws_server_runs.specs.Turns.{outcome_of}
+use Rattle.laws_server_runs.specs.Turns.{outcome_of, IsOfServers, BuildsOther}
 use Rattle.laws_server_runs.proofs.Actions.{Longer, event_longer}
+use Rattle.laws_server_runs.proofs.BuiltStreams.{built_beside}
+use Rattle.laws_server_runs.specs.Places.{RunLaid}
 use Rattle.laws_server_runs.proofs.FirstAlone.{only_first}
 use Rattle.laws_server_runs.proofs.Fronts.{order_shorter, once_shorter, ends_shorter, stand_shorter}
 use Rattle.laws_server_runs.proofs.HeldLine.{at_line}
 use Rattle.laws_server_runs.proofs.Kept.{step_kept}
 use Rattle.laws_server_runs.proofs.LaidRuns.{bare, all_laid}
 use Rattle.laws_server_runs.proofs.Others.{streams_same}
-use Rattle.laws_server_runs.proofs.RunSteps.{IsAny, IsAnyPair, any_assigned, any_numbered, event_step}
+use Rattle.laws_server_runs.proofs.RunSteps.{IsAny, IsAnyPair, IsBuild, any_assigned, any_numbered, event_kind, event_step}
+use Rattle.laws_server_runs.proofs.Unmerged.{HaveNoMerges, unmerged}
 use Rattle.laws_server_runs.proofs.SeenTables.{seen_as, all_seen}
 use Rattle.laws_server_runs.proofs.ServedNotes.{serves_of}
 use Rattle.laws_server_runs.proofs.Steps.{kept_at}
@@ -49,6 +52,7 @@ module _ (texts : ℕ → Bytes) (subject : ℕ) where
   first_kept : (batch servers : ℕ) → RunKept texts subject (first_run batch servers)
   first_kept batch servers = record {
     run = [];
+    behind = ([], refl);
     ranges = λ s cell st at up r held. absurd (let z : None ≡ Some r = sym (ap (λ l. range_of l subject) (bare batch servers s cell st at up)) ∙ held in cc);
     own = λ s t r u one two e. absurd (none s r one);
     streams = record { log = refl; metadata = refl; chain = tt; keys = tt; spelled = λ a g group e. absurd cc; records = λ a g group e. absurd cc };
@@ -62,13 +66,19 @@ module _ (texts : ℕ → Bytes) (subject : ℕ) where
       nothing_seen [] seen = ((λ l. []), tt, refl)
       nothing_seen (note ∷ notes) seen = absurd seen
 
+  event_kept : (x : ServerRun) → RunLaid x → HaveNoMerges x.servers → RunKept texts subject x → AreApart subject x.servers → (event : ServerEvent) → BuildsOther subject event → IsOfServers event ⊎ IsBuild event →
+      StreamsInOrder texts subject (after_event x event) → RunKept texts subject (after_event x event)
+  event_kept x laid whole k apart event other (inl is) order =
+      step_kept texts subject nothing_taken x laid k apart (outcome_of x.servers event).notes (after_event x event) (event_step IsAny IsAnyPair x whole event is (any_assigned event) (any_numbered event)) (of_view (after_event x event) order)
+  event_kept x laid whole k apart event other (inr build) order =
+      subst (λ e. RunKept texts subject (after_event x e)) (sym build.2) (built_beside texts subject nothing_taken x k build.0 build.1 (other build.0 build.1 build.2))
+
   -- whatever comes, where the range is none of the two of a split at servers
   pub all_kept : (batch servers : ℕ) (events : List ServerEvent) → StaysApart subject batch servers events → StreamsInOrder texts subject (run_of batch servers events) → RunKept texts subject (run_of batch servers events)
   all_kept batch servers [] are order = first_kept batch servers
   all_kept batch servers (event ∷ earlier) are order =
       let x : ServerRun = run_of batch servers earlier in
-      let k : RunKept texts subject x = all_kept batch servers earlier are.1 (before x (after_event x event) (event_longer x event) order) in
-      step_kept texts subject x (all_laid batch servers earlier) k are.0 (outcome_of x.servers event).notes (after_event x event) (event_step IsAny IsAnyPair x event (any_assigned event) (any_numbered event)) (of_view (after_event x event) order)
+      event_kept x (all_laid batch servers earlier) (unmerged batch servers earlier) (all_kept batch servers earlier are.1 (before x (after_event x event) (event_longer x event) order)) are.0.0 event are.0.1 (event_kind event) order
 
 module _ (texts : ℕ → Bytes) (batch servers : ℕ) where
   -- what is loaded replays, where the map assigns the first range alone
@@ -96,7 +106,7 @@ module _ (texts : ℕ → Bytes) (batch servers : ℕ) where
   apart_at_line events s range r apart order at log =
       let x : ServerRun = run_of batch servers events in
       let k : RunKept texts range x = all_kept texts range batch servers events apart order in
-      let h : HeldKept texts range k.run (view_at range x s) r (split_of at.state.splits range) = kept_at texts range x k s r at in
+      let h : HeldKept texts range k.run (view_at range x s) r (split_of at.state.splits range) = kept_at texts range nothing_taken x k s r at in
       let v : RangeView = with_stage (view_at range x s) h.split in
       let o : AreObserved texts range k.run (only range (seen_as texts x.notes)) = k.seen (seen_as texts x.notes) (all_seen texts x.notes) in
       at_line texts k.run v r (streams_same texts k.run (view_at range x 0) v refl refl k.streams) (serves_of texts range k.run v r at.serves h.range)

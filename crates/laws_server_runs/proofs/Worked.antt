@@ -186,7 +186,7 @@ served =
     }
 
 abbrev second : ServerState
-second = record { context = record (started 2 1 0 first_pick 1).context { count = 6 }; ranges = (1, served) ∷ []; splits = [] }
+second = record { context = record (started 2 1 0 first_pick 1).context { count = 6 }; ranges = (1, served) ∷ []; splits = []; merges = [] }
 
 serves : ServesAt run 2 1 served
 unfolding numbers.number reading.record_at reading.joined_at reading.text_at reading.body_at reading.transactions_at reading.transaction_at reading.change_at reading.counted_at reading.cell_at reading.fields_at reading.transactions_of

@@ -55,7 +55,7 @@ other =
     }
 
 abbrev second : ServerState
-second = record { context = record (started 2 1 0 first_pick 1).context { count = 9 }; ranges = (first_range, served) ∷ ((2, other) ∷ []); splits = [] }
+second = record { context = record (started 2 1 0 first_pick 1).context { count = 9 }; ranges = (first_range, served) ∷ ((2, other) ∷ []); splits = []; merges = [] }
 
 serves_first : ServesAt run 2 first_range served
 unfolding numbers.number reading.record_at reading.joined_at reading.text_at reading.body_at reading.transactions_at reading.transaction_at reading.change_at reading.counted_at reading.cell_at reading.fields_at reading.transactions_of

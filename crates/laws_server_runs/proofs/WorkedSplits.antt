@@ -23,17 +23,17 @@ use Rattle.laws_server_runs.proofs.Worked.{comes, asked, lists}
 
 -- ---- what comes
 
-abbrev key : List ℕ
+abbrev pub key : List ℕ
 key = 109 ∷ []
 
 -- an answer of a node, of the manager, or of the map
-abbrev stands_at : (count extent offset : ℕ) → ServerEvent
+abbrev pub stands_at : (count extent offset : ℕ) → ServerEvent
 stands_at count extent offset = comes 1 (Node 1) (bodies.Append (appends.Appended (asked 1 count) extent offset))
 
-abbrev grows_to : (count extent : ℕ) → ServerEvent
+abbrev pub grows_to : (count extent : ℕ) → ServerEvent
 grows_to count extent = comes 1 Manager (bodies.Stream (streams.Extended (asked 1 count) extent first_pick))
 
-abbrev sealed_at : (count extent length : ℕ) → ServerEvent
+abbrev pub sealed_at : (count extent length : ℕ) → ServerEvent
 sealed_at count extent length = comes 1 Manager (bodies.Seal (seals.SealedIs (asked 1 count) extent length))
 
 -- the range is served, and its split begins

@@ -1,5 +1,5 @@
 -- What is kept of a range at all servers over a list of events, whatever other ranges they hold.
-use Rattle.std.specs.Prelude.{◌≡◌, ◌⊎◌, ℕ, suc, ◌^◌, true, nat_lt, List, ◌++◌, Option, Some, None}
+use Rattle.std.specs.Prelude.{◌≡◌, ◌⊎◌, ℕ, suc, ◌^◌, true, nat_lt, List, [], ◌++◌, Option, Some, None}
 use Rattle.wire.specs.declared.note.Note.{Note}
 use Rattle.model_streams.specs.Maps.{entry_at}
 use Rattle.model_histories.specs.Log.{only}
@@ -56,6 +56,17 @@ abbrev pub AreApart : ℕ → List ServerCell → Type 0
 AreApart subject servers = (s : ℕ) (cell : ServerCell) (state : ServerState) → entry_at servers s ≡ Some cell → cell.state ≡ Some state →
     (k : ℕ) (job : SplitJob) → split_of state.splits k ≡ Some job → IsApart subject job
 
+-- ---- what it began with
+
+-- what the streams of a range were built of: the run that had made them by then, and what it shows, said of this range
+pub record Taken : Type 0 where
+  pub run : Run
+  pub notes : List Note
+
+-- they were built of no other's
+abbrev pub nothing_taken : Taken
+nothing_taken = record { run = []; notes = [] }
+
 -- ---- the range at all servers
 
 module _ (texts : ℕ → Bytes) (subject : ℕ) where
@@ -65,16 +76,22 @@ module _ (texts : ℕ → Bytes) (subject : ℕ) where
     pub range : RangeKept texts subject run (with_stage v split) r
     pub splits : SplitKept split r job
 
-  pub record RunKept (x : ServerRun) : Type 0 where
+  -- What is kept of it at all servers, where its run began with what was taken: what is seen of it begins behind that.
+  pub record RunBehind (taken : Taken) (x : ServerRun) : Type 0 where
     -- what all servers have done to the tables of the range
     pub run : Run
+    pub behind : IsLonger taken.run run
     pub ranges : (s : ℕ) (cell : ServerCell) (state : ServerState) → entry_at x.servers s ≡ Some cell → cell.state ≡ Some state →
         (r : RangeState) → range_of state.ranges subject ≡ Some r → HeldKept run (view_at subject x s) r (split_of state.splits subject)
     -- no two servers serve the range under one generation
     pub own : (s t : ℕ) (r u : RangeState) → ServesAt x s subject r → ServesAt x t subject u → r.load.generation ≡ u.load.generation → s ≡ t
     pub streams : StreamsKept texts run (view_at subject x 0)
-    -- what is seen of the range is what is seen of the run
-    pub seen : (notes : List Note) → AreSeenAs texts x.notes notes → AreObserved texts subject run (only subject notes)
+    -- what was taken and what is seen of the range are what is seen of the run
+    pub seen : (notes : List Note) → AreSeenAs texts x.notes notes → AreObserved texts subject run (taken.notes ++ only subject notes)
+
+  -- where its streams were not built of another's
+  abbrev pub RunKept : ServerRun → Type 0
+  RunKept x = RunBehind nothing_taken x
 
   -- ---- one step of the range, with its split
 

@@ -22,7 +22,7 @@ use Rattle.model_partition.specs.Answering.{answer_rule, give_up_all}
 use Rattle.model_partition.specs.Server.{ServerState, ServerOutcome, range_of, set_range, new_range, split_of, set_split, has_numbers}
 use Rattle.model_partition.specs.Servers.{ServerCell, ServersOutcome, server_takes, server_gives_up, server_checkpoints, server_splits, server_stops, server_starts, told_moment}
 use Rattle.model_histories.specs.StreamActions.{StreamAction, transact_actions, answer_actions, split_stood, follow_actions, split_sides}
-use Rattle.model_histories.specs.ServerRun.{ServerRun, RangeEffect, Begins, Does, Tells, Rests, ServerEvent, Takes, GivesUp, Checkpoints as MakesCheckpoint, Splits, Stops, Starts, Moment, with_effect, with_outcome}
+use Rattle.model_histories.specs.ServerRun.{ServerRun, RangeEffect, Begins, Does, Tells, Rests, ServerEvent, Takes, GivesUp, Checkpoints as MakesCheckpoint, Splits, Stops, Starts, Moment, Builds, with_effect, with_outcome}
 
 -- a rule of a range, with what it does with streams and what it leaves
 pub data IsRule (r : RangeState) : List StreamAction → RangeOutcome → Type 0 where
@@ -108,6 +108,15 @@ outcome_of servers (Splits server range key) = server_splits servers server rang
 outcome_of servers (Stops server call) = server_stops servers server call
 outcome_of servers (Starts server now batch) = server_starts servers server now batch
 outcome_of servers (Moment now) = record { servers = map (told_moment now) servers; packets = []; notes = [] }
+outcome_of servers (Builds source range) = record { servers = servers; packets = []; notes = [] }
+
+-- what comes to servers, and not to streams alone
+abbrev pub IsOfServers : ServerEvent → Type 0
+IsOfServers event = (source range : ℕ) → event ≡ Builds source range → ⊥
+
+-- the streams of no such range are built
+abbrev pub BuildsOther : ℕ → ServerEvent → Type 0
+BuildsOther k event = (source range : ℕ) → event ≡ Builds source range → range ≡ k → ⊥
 
 -- each server that runs has the ranges that it had, and their splits, or none
 abbrev pub HoldNoMore : List ServerCell → List ServerCell → Type 0

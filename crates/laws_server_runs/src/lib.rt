@@ -6,7 +6,8 @@
 //! the law of chains (`laws_tables`), and what one of them holds while it serves is what the run says that its generation holds.
 //! That, and what a range has read while it loads, stands in specs/; the lemmas follow each rule (`Loads`, `Confirms`,
 //! `ServedForms`, `ServedStands`), what its split does behind it (`SplitMore`, `SplitTurns`), then one server beside the others, and then a
-//! list of events, over which the range is none of the two of a split (`Apart`). `laws` states the clauses.
+//! list of events, over which the range is none of the two of a split (`Apart`) and no merge begins (`Unmerged`). `laws` states the
+//! clauses.
 //! What each step of a checkpoint leaves is proved beside them (`CheckpointSteps`, `CheckpointKept`), also while one that combines merges
 //! the older pages (`CheckpointMerges`), those that the range's cache holds among them (`HeldBytes`). Numbers are any here, where a
 //! server has those of 64 and of 32 bits: the rules test those of a checkpoint, and the end of a log that is served.

@@ -24,13 +24,13 @@ use Rattle.model_partition.specs.Map.{MapState, range_at, range_of_key, halves_a
 use Rattle.model_partition.specs.MapRules.{assign_fault, assign_rule, renew_fault, renew_rule, has_numbers, begin_split_fault, begin_split_taken, begin_split_rule, complete_split_fault, complete_split_taken, complete_split_rule, begin_merge_fault, begin_merge_taken, begin_merge_rule, complete_merge_fault, complete_merge_rule, route_rule, told as map_told, map_rule}
 use Rattle.model_partition.specs.declared.table_note.TableNote.{TableNote}
 use Rattle.model_partition.specs.declared.table_note.TableNote.TheVariants.{Began, Done, Loaded}
-use Rattle.model_partition.specs.Servers.{ServersOutcome, told, noted, with_told, server_takes, server_gives_up, server_checkpoints, server_splits, server_stops, server_starts}
+use Rattle.model_partition.specs.Servers.{ServersOutcome, told, noted, with_told, server_takes, server_gives_up, server_checkpoints, server_splits, server_merges, server_stops, server_starts}
 use Rattle.model_partition.specs.Cluster.{Cluster, told_by_map, map_performs, map_performs_if, map_takes, delivered_to, delivers, stops, restarts, cluster_after, assigns, renews, shows_moment, cluster_after_all, first_cluster}
 use Rattle.laws_streams.proofs.Invariant.{agree_in_moves, kept_in_moves}
 use Rattle.laws_streams.proofs.RisingFences.{run_more}
 use Rattle.laws_servers.specs.Sending.{MaySend, MaySendAll, ByMoves}
 use Rattle.laws_servers.proofs.ClientPackets.{may_send_all}
-use Rattle.laws_servers.proofs.ServerSteps.{IsStill, server_takes_shows, server_gives_up_tidy, server_checkpoints_tidy, server_splits_tidy, server_stops_still, server_starts_still}
+use Rattle.laws_servers.proofs.ServerSteps.{IsStill, server_takes_shows, server_gives_up_tidy, server_checkpoints_tidy, server_splits_tidy, server_merges_tidy, server_stops_still, server_starts_still}
 
 -- ---- moves one after the other
 
@@ -248,7 +248,9 @@ comes_by c (Checkpoint server range combine) =
 comes_by c (Split server range key) =
     let o : ServersOutcome = server_splits c.servers server range key in
     told_by c.stream_layer o.packets o.notes (may_send_all o.packets (server_splits_tidy c.servers server range key).0)
-comes_by c (Merge server left right) = one c.stream_layer (Happens (Merge server left right))
+comes_by c (Merge server left right) =
+    let o : ServersOutcome = server_merges c.servers server left right in
+    told_by c.stream_layer o.packets o.notes (may_send_all o.packets (server_merges_tidy c.servers server left right).0)
 
 -- ---- whole runs
 

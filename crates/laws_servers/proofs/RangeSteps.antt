@@ -47,7 +47,7 @@ use Rattle.model_partition.specs.declared.table_note.TableNote.TheVariants.{Load
 use Rattle.model_partition.specs.declared.waiting.PlaceRead.{PlaceRead}
 use Rattle.model_partition.specs.declared.waiting.WaitingGet.{WaitingGet}
 use Rattle.model_partition.specs.declared.waiting.WaitingTransaction.{WaitingTransaction}
-use Rattle.model_partition.specs.Range.{OutGroup, RangeState, RangeOutcome, request, used, refuses, waiting_out, refused_users, dropped, given, picking, is_serving}
+use Rattle.model_partition.specs.Range.{OutGroup, RangeState, RangeOutcome, request, used, refuses, waiting_out, refused_gets, refused_users, dropped, given, picking, is_serving}
 use Rattle.model_partition.specs.Serving.{record_of, group_count, began, appends as appends_next, forms, transact_fault, transacts, transact_rule, dones, committed, out_size, after_these, applies, log_done}
 use Rattle.model_partition.specs.PlaceReads.{is_place, place_of, places_of, reads_under, reads_page, moved_on, asks_again}
 use Rattle.model_partition.specs.Loading.{Group, said_after, replayed, read_by, read_of, asks_index, index_named, reads_named, reads_index, installs, index_read, index_bytes, reads_log, first_position, reads_log_from, checks_log, begins_log, reads_metadata, begins_metadata, opens, says, metadata_news, replays, log_read, log_news, open_region, serves_from, serves, shown_table, has_position}
@@ -89,11 +89,14 @@ tidy_shows loading o h = (h.0, inl h.1)
 
 -- ---- steps
 
+pub gets_all : (d : ServerContext) (r : RangeState) → AllFromRanges (refused_gets d r)
+gets_all d r = all_map (λ (g : WaitingGet). refuses d g.from g.request refusals.NotOwner) (λ g. (d.server, refl, inr refl)) r.gets
+
 pub refused_all : (d : ServerContext) (r : RangeState) → AllFromRanges (refused_users d r)
 refused_all d r =
     all_both _ _
     (all_map (λ (t : WaitingTransaction). refuses d t.from t.request refusals.NotOwner) (λ t. (d.server, refl, inr refl)) (waiting_out r.out ++ r.queue))
-    (all_map (λ (g : WaitingGet). refuses d g.from g.request refusals.NotOwner) (λ g. (d.server, refl, inr refl)) r.gets)
+    (gets_all d r)
 
 dropped_tidy : (d : ServerContext) (r : RangeState) → IsTidy (dropped d r)
 dropped_tidy d r = (refused_all d r, tt)

@@ -42,7 +42,7 @@ Sends t = AllFromServers t.packets
 users_sends : (d : ServerContext) (r : RangeState) → AllFromServers (refused_users d r)
 users_sends d r = from_servers (refused_users d r) (refused_all d r)
 
-client_sends : (p : Option Packet) → IfFromRange p → AllFromServers (option_to_list p)
+pub client_sends : (p : Option Packet) → IfFromRange p → AllFromServers (option_to_list p)
 client_sends p h = from_servers (option_to_list p) (listed p h)
 
 pub split_sends : (d : ServerContext) (r : RangeState) (key : List ℕ) → Sends (split_rule d r key)
@@ -152,7 +152,7 @@ follows_in_sends d r job phase = tt
 pub follows_sends : (d : ServerContext) (r : RangeState) (job : SplitJob) → Sends (follows d r job)
 follows_sends d r job = if_elim Sends (has_number d) _ _ (λ t. follows_in_sends d r job job.phase) (λ f. tt)
 
-seal_again_all : (d : ServerContext) (e : Option ℕ) (q : ReqNo) → AllFromServers (seal_again d e q)
+pub seal_again_all : (d : ServerContext) (e : Option ℕ) (q : ReqNo) → AllFromServers (seal_again d e q)
 seal_again_all d None q = tt
 seal_again_all d (Some e) q = ((d.server, refl, inl refl), tt)
 

@@ -1,5 +1,5 @@
 -- A stream that is built of another begins as that one stands: with its list, its fence, and all that was done on it.
-use Rattle.std.proofs.Common.{◌≡◌, ◌≢◌, ◌⊎◌, ℕ, suc, ◌<◌, List, [], ◌∷◌, ◌++◌, length, Option, Some, None, slice_get, Contains, refl, sym, ap, ◌∙◌, subst, inl, inr, arith}
+use Rattle.std.proofs.Common.{◌≡◌, ◌≢◌, ◌⊎◌, ℕ, suc, ◌<◌, ◌≤◌, List, [], ◌∷◌, ◌++◌, length, Option, Some, None, slice_get, Contains, refl, sym, ap, ◌∙◌, subst, inl, inr, arith}
 use Rattle.std.proofs.lemmas.Option.{slice_get_within}
 use Rattle.wire.specs.declared.actor.ActorId.{ActorId}
 use Rattle.wire.specs.declared.actor.ActorId.TheVariants.{Server}
@@ -270,9 +270,9 @@ pub record IsAbsent (name : StreamName) (w : StreamSystem) : Type 0 where
   pub nobody : NobodyAsked name w
   pub absent : stream_of w.catalog.stream name ≡ None
 
--- where it was asked to be built, it is built of one stream alone, which is there
+-- where it was asked to be built, it is built of one stream alone, which is there, and is of a range that has a number
 abbrev pub BuildsAlone : StreamName → StreamSystem → Type 0
-BuildsAlone name w = (b : BuildsStream w.post name) → (source : Source) × (b.entry.sources ≡ source ∷ []) × IsThere w source.stream
+BuildsAlone name w = (b : BuildsStream w.post name) → (source : Source) × (b.entry.sources ≡ source ∷ []) × (1 ≤ source.stream.range) × IsThere w source.stream
 
 -- the machine of a stream, and its numbers
 pub record Followed (generation : ℕ → ℕ) (name : StreamName) (v : StreamSystem) : Type 0 where
@@ -286,6 +286,7 @@ module _ (generation : ℕ → ℕ) (name : StreamName) (plain : name.kind ≢ B
   pub record BornOf : Type 0 where
     pub source : StreamName
     pub kind : source.kind ≡ name.kind
+    pub counted : 1 ≤ source.range
     pub there : IsThere w source
     pub stands : (f : Followed generation source v) → StandsAs source name v f.state
 
@@ -310,10 +311,11 @@ module _ (generation : ℕ → ℕ) (name : StreamName) (plain : name.kind ≢ B
 
       is_built : (z : Stream) → stream_of v.catalog.stream name ≡ Some z → KeepsAll w.catalog v.catalog → Built w.post w.catalog name z → IsBorn
       is_built z there keeps b =
-          let (source, one, (x, was)) = alone b.asked in
+          let (source, one, counted, (x, was)) = alone b.asked in
           inr (record {
             source = source.stream;
             kind = built_kind b.asked source one;
+            counted = counted;
             there = (x, was);
             stands = λ f. built_stands generation source.stream v f.state f.sent f.follows name w goes f.listed (keeps source.stream x was ∙ sym was) z there (b.alone source one x was);
           })
@@ -363,7 +365,7 @@ module _ (generation : ℕ → ℕ) (nodes target : ℕ) where
     pub from : (own.done ≡ []) ⊎ ((source : StreamName) × (kind : source.kind ≡ name.kind) × (there : IsThere (now before) source) × (m : Machine source moves) × (own.done ≡ m.done))
 
   module _ (name : StreamName) (plain : name.kind ≢ BlobData) (other : StreamName) (moves : List Move) (move : Move) (was : Machine other moves) (is : Machine other (moves ++ move ∷ []))
-      (sources : (source : StreamName) → source.kind ≡ name.kind → IsThere (now moves) source → Machine source (moves ++ move ∷ []))
+      (sources : (source : StreamName) → source.kind ≡ name.kind → 1 ≤ source.range → IsThere (now moves) source → Machine source (moves ++ move ∷ []))
       (absent : IsAbsent name (now moves)) (alone : BuildsAlone name (now moves)) (nobody : NobodyAsked name (now (moves ++ move ∷ []))) where
     abbrev w : StreamSystem
     w = now moves
@@ -400,7 +402,7 @@ module _ (generation : ℕ → ℕ) (nodes target : ℕ) where
               let follows = unborn_follows generation other name v (after_all Group generation is.done).state is.sent is.below.follows (record { nobody = nobody; empty = empty }) (λ server to list q m c among same. (z, there)) in
               inr (begins_with [] tt follows (inl refl))
           | inr b ↦
-              let m : Machine b.source (moves ++ move ∷ []) = sources b.source b.kind b.there in
+              let m : Machine b.source (moves ++ move ∷ []) = sources b.source b.kind b.counted b.there in
               let f = as_followed b.source (λ blob. plain (sym b.kind ∙ blob)) (moves ++ move ∷ []) m in
               let follows = built_follows generation b.source name v (after_all Group generation m.done).state m.sent m.below.follows (b.stands f) nobody in
               inr (begins_with m.done m.are follows (inr (b.source, b.kind, b.there, m, refl)))

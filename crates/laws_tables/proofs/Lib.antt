@@ -14,6 +14,7 @@ pub mod Index
 pub mod Layers
 pub mod Machine
 pub mod Members
+pub mod NarrowKeys
 mod Lines
 pub mod Loads
 pub mod NeededMoments

@@ -56,7 +56,7 @@ other_one : (A : Type 0) (g g' : ℕ) (x y : A) → (g ≡ g' → ⊥) → cond 
 other_one A g g' x y n = ap (λ b. cond b x y) (ne_test A g g' n)
 
 -- the step of one incarnation, and all others as they were
-by_owner : (P : ℕ → Serving → Type 0) (state : ℕ → Serving) (step : Serving → Serving) (owner g : ℕ) → P owner (step (state owner)) → ((g ≡ owner → ⊥) → P g (state g)) →
+pub by_owner : (P : ℕ → Serving → Type 0) (state : ℕ → Serving) (step : Serving → Serving) (owner g : ℕ) → P owner (step (state owner)) → ((g ≡ owner → ⊥) → P g (state g)) →
     P g (cond (eqb g owner) (step (state g)) (state g))
 by_owner P state step owner g own other =
     ⊎_elim {C = P g (cond (eqb g owner) (step (state g)) (state g))}

@@ -3,6 +3,7 @@ pub mod Ends
 pub mod Families
 pub mod Fenced
 pub mod Layers
+pub mod NarrowKeys
 pub mod Runs
 pub mod Through
 pub mod WholeStories

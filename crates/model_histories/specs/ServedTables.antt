@@ -24,7 +24,7 @@ use Rattle.model_partition.specs.Servers.{ServerCell}
 use Rattle.model_histories.specs.Renaming.{renamed, decoded}
 use Rattle.model_histories.specs.TableContents.{StandsAt, table_in}
 use Rattle.model_histories.specs.StreamActions.{PlacedBytes}
-use Rattle.model_histories.specs.ServerRun.{ServerRun, ServerEvent, Takes, Splits, log_name, metadata_name, place_number}
+use Rattle.model_histories.specs.ServerRun.{ServerRun, ServerEvent, Takes, Splits, Builds, log_name, metadata_name, place_number}
 
 -- ---- premises
 
@@ -44,19 +44,21 @@ AreFirst (event ∷ earlier) = IsFirst event × AreFirst earlier
 -- no range is split
 abbrev pub IsUnsplit : ServerEvent → Type 0
 IsUnsplit (Splits server range key) = ⊥
+IsUnsplit (Builds source range) = ⊥
 IsUnsplit event = Unit {0}
 
 abbrev pub AreUnsplit : List ServerEvent → Type 0
 AreUnsplit [] = Unit {0}
 AreUnsplit (event ∷ earlier) = IsUnsplit event × AreUnsplit earlier
 
--- The map gives the number of a range to neither of the two that a split makes.
+-- The map gives the number of a range to neither of the two that a split makes, and its streams are built of no other's.
 abbrev pub IsOfOthers : ℕ → ActorId → Body → Type 0
 IsOfOthers range Map (bodies.Map (maps.SplitBegun w low high)) = (low ≡ range → ⊥) × (high ≡ range → ⊥)
 IsOfOthers range from body = Unit {0}
 
 abbrev pub IsUnborn : ℕ → ServerEvent → Type 0
 IsUnborn range (Takes server p) = IsOfOthers range p.from p.body
+IsUnborn range (Builds source other) = other ≡ range → ⊥
 IsUnborn range event = Unit {0}
 
 abbrev pub AreUnborn : ℕ → List ServerEvent → Type 0

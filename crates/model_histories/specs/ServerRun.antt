@@ -216,7 +216,7 @@ cell_effect p (Some cell) = server_effect p cell.state
 -- ---- lists of events
 
 -- A packet comes to a server; it is told to give up, to make a checkpoint of a range, or to split it at a key; it stops, or stops later; it starts again at a
--- moment, for groups of at most so many transactions; a moment comes to all.
+-- moment, for groups of at most so many transactions; a moment comes to all; the streams of a range are built of another's.
 pub data ServerEvent : Type 0 where
   Takes : (server : ℕ) (p : Packet) → ServerEvent
   GivesUp : (server range : ℕ) (pick : Nodes) → ServerEvent
@@ -225,12 +225,28 @@ pub data ServerEvent : Type 0 where
   Stops : (server call : ℕ) → ServerEvent
   Starts : (server now batch : ℕ) → ServerEvent
   Moment : (now : ℕ) → ServerEvent
+  Builds : (source range : ℕ) → ServerEvent
 
 abbrev pub with_effect : ℕ → ServerRun → RangeEffect → ServerRun
 with_effect server x (Begins range) = record x { history = changed_at server range first_history x.history }
 with_effect server x (Does range generation actions) = after_actions server range generation x actions
 with_effect server x (Tells generation sides) = after_sides server generation x sides
 with_effect server x Rests = x
+
+-- what stands already, or else what is given
+abbrev pub own_or : {A : Type 0} → List A → List A → List A
+own_or [] given = given
+own_or (x ∷ own) given = x ∷ own
+
+-- The streams of a range are built of another's: where nothing was done with them yet, they begin as those of the source stand, with
+-- what its reads were shown and its appends were answered for.
+abbrev pub built_streams : (source range : ℕ) → ServerRun → ServerRun
+built_streams source range x =
+    record x {
+      story = λ name. if name.range == range then own_or (x.story name) (x.story (stream_named source name.kind)) else x.story name;
+      shown = changed range (own_or (x.shown range) (x.shown source)) x.shown;
+      answered = changed range (own_or (x.answered range) (x.answered source)) x.answered;
+    }
 
 -- servers after a step, and what they show
 abbrev pub with_outcome : ServerRun → ServersOutcome → ServerRun
@@ -244,6 +260,7 @@ after_event x (Splits server range key) = with_outcome x (server_splits x.server
 after_event x (Stops server call) = with_outcome x (server_stops x.servers server call)
 after_event x (Starts server now batch) = with_outcome x (server_starts x.servers server now batch)
 after_event x (Moment now) = record x { servers = map (told_moment now) x.servers }
+after_event x (Builds source range) = built_streams source range x
 
 -- so many servers, for groups of at most so many transactions, which hold nothing
 abbrev pub first_run : (batch servers : ℕ) → ServerRun

@@ -6,12 +6,12 @@ use Rattle.wire.specs.declared.note.Note.{Note}
 use Rattle.wire.specs.declared.packet.Packet.{Packet}
 use Rattle.wire.specs.declared.refusal.Refusal.{Refusal}
 use Rattle.model_streams.specs.declared.event.Event.{Event}
-use Rattle.model_streams.specs.declared.event.Event.TheVariants.{Deliver, Stop, Restart, GiveUp, Checkpoint, Split, Assign, Renew, Moment}
+use Rattle.model_streams.specs.declared.event.Event.TheVariants.{Deliver, Stop, Restart, GiveUp, Checkpoint, Split, Merge, Assign, Renew, Moment}
 use Rattle.model_streams.specs.Outcome.{Outcome}
 use Rattle.model_streams.specs.StreamSystem.{StreamSystem, ActorCell, running, down, armed, stops_in, stands_in, burnt, unsent, happens, delivered, start}
 use Rattle.model_partition.specs.Map.{MapState, first_map, range_at}
 use Rattle.model_partition.specs.MapRules.{assign_fault, assign_rule, renew_fault, renew_rule, map_rule}
-use Rattle.model_partition.specs.Servers.{ServerCell, ServersOutcome, with_told, server_takes, server_gives_up, server_checkpoints, server_splits, server_stops, server_starts, told_moment, first_servers}
+use Rattle.model_partition.specs.Servers.{ServerCell, ServersOutcome, with_told, server_takes, server_gives_up, server_checkpoints, server_splits, server_merges, server_stops, server_starts, told_moment, first_servers}
 
 -- the stream layer, with all packets and observations; the servers, numbered from 1; the map, which of one that has stopped is
 -- what its records make, and whether it runs; the last moment; and how many transactions a group may hold
@@ -110,6 +110,7 @@ cluster_after c (Restart actor) = restarts c actor
 cluster_after c (GiveUp server range pick) = servers_perform c (server_gives_up c.servers server range pick)
 cluster_after c (Checkpoint server range combine) = servers_perform c (server_checkpoints c.servers server range combine)
 cluster_after c (Split server range key) = servers_perform c (server_splits c.servers server range key)
+cluster_after c (Merge server left right) = servers_perform c (server_merges c.servers server left right)
 cluster_after c (Assign range server until) = assigns c range server until
 cluster_after c (Renew range server until) = renews c range server until
 cluster_after c (Moment now) = shows_moment c now
@@ -120,9 +121,19 @@ abbrev pub cluster_after_all : Cluster → List Event → Cluster
 cluster_after_all c [] = c
 cluster_after_all c (event ∷ events) = cluster_after_all (cluster_after c event) events
 
--- no range is split
+-- no two ranges are merged
+abbrev pub IsUnmerged : Event → Type 0
+IsUnmerged (Merge server left right) = ⊥
+IsUnmerged event = Unit {0}
+
+abbrev pub AreUnmerged : List Event → Type 0
+AreUnmerged [] = Unit {0}
+AreUnmerged (event ∷ events) = IsUnmerged event × AreUnmerged events
+
+-- no range is split, nor are two merged
 abbrev pub IsUnsplit : Event → Type 0
 IsUnsplit (Split server range key) = ⊥
+IsUnsplit (Merge server left right) = ⊥
 IsUnsplit event = Unit {0}
 
 abbrev pub AreUnsplit : List Event → Type 0

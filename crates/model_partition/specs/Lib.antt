@@ -4,6 +4,8 @@ pub mod Getting
 pub mod CheckpointStates
 pub mod Checkpoints
 pub mod Splits
+pub mod JoinedRanges
+pub mod Merges
 pub mod PlaceReads
 pub mod Loading
 pub mod Past

@@ -105,11 +105,13 @@ abbrev pub waiting_out : Option OutGroup → List WaitingTransaction
 waiting_out None = []
 waiting_out (Some out) = out.transactions
 
--- those that wait are told that this server does not hold the range: the group that is being appended, the queue, the Gets
+-- the Gets that wait are told that this server does not hold the range
+abbrev pub refused_gets : ServerContext → RangeState → List Packet
+refused_gets d r = map (λ g. refuses d g.from g.request refusals.NotOwner) r.gets
+
+-- those that wait are told so: the group that is being appended, the queue, the Gets
 abbrev pub refused_users : ServerContext → RangeState → List Packet
-refused_users d r =
-    map (λ t. refuses d t.from t.request refusals.NotOwner) (waiting_out r.out ++ r.queue)
-    ++ map (λ g. refuses d g.from g.request refusals.NotOwner) r.gets
+refused_users d r = map (λ t. refuses d t.from t.request refusals.NotOwner) (waiting_out r.out ++ r.queue) ++ refused_gets d r
 
 -- the range goes, with its jobs
 abbrev pub dropped : ServerContext → RangeState → RangeOutcome

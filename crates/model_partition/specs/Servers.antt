@@ -28,7 +28,7 @@ use Rattle.model_partition.specs.declared.table_note.TableNote.{TableNote}
 use Rattle.model_partition.specs.declared.table_note.TableNote.TheVariants as tables
 use Rattle.model_partition.specs.Loading.{shown_table}
 use Rattle.model_partition.specs.Range.{RangeState}
-use Rattle.model_partition.specs.Server.{ServerState, ServerOutcome, range_of, awaiting, server_rule, moment_rule, give_up_rule, checkpoint_refusal, server_checkpoint, split_refusal, server_split, started}
+use Rattle.model_partition.specs.Server.{ServerState, ServerOutcome, range_of, awaiting, server_rule, moment_rule, give_up_rule, checkpoint_refusal, server_checkpoint, split_refusal, server_split, merge_refusal, server_merge, started}
 
 -- a server: how often it was started, and its state while it runs
 pub record ServerCell : Type 0 where
@@ -206,6 +206,15 @@ abbrev pub split_fault_of : ℕ → List ℕ → Option ServerState → Option R
 split_fault_of range key None = None
 split_fault_of range key (Some server) = split_refusal server range key
 
+abbrev pub cell_merges : ServerCell → ℕ → ℕ → Option ServerState → CellOutcome
+cell_merges cell left right None = cell_rests cell
+cell_merges cell left right (Some server) = cell_performs cell (server_merge server left right)
+
+-- why a server begins no merge of two ranges
+abbrev pub merge_fault_of : ℕ → ℕ → Option ServerState → Option Refusal
+merge_fault_of left right None = None
+merge_fault_of left right (Some server) = merge_refusal server left right
+
 -- a server has no device: it stops at once, or not at all
 abbrev pub cell_stops : ℕ → ServerCell → ServerCell
 cell_stops call cell = if call == 0 then record cell { state = None } else cell
@@ -246,6 +255,9 @@ server_checkpoints servers s range combine = at_server servers s (λ cell. cell_
 abbrev pub server_splits : List ServerCell → ℕ → ℕ → List ℕ → ServersOutcome
 server_splits servers s range key = at_server servers s (λ cell. cell_splits cell range key cell.state) (entry_at servers s)
 
+abbrev pub server_merges : List ServerCell → ℕ → ℕ → ℕ → ServersOutcome
+server_merges servers s left right = at_server servers s (λ cell. cell_merges cell left right cell.state) (entry_at servers s)
+
 abbrev pub server_stops : List ServerCell → ℕ → ℕ → ServersOutcome
 server_stops servers s call = at_server servers s (λ cell. cell_rests (cell_stops call cell)) (entry_at servers s)
 
@@ -272,6 +284,10 @@ checkpoint_refusal_at range (Some cell) = checkpoint_fault_of range cell.state
 abbrev pub split_refusal_at : ℕ → List ℕ → Option ServerCell → Option Refusal
 split_refusal_at range key None = None
 split_refusal_at range key (Some cell) = split_fault_of range key cell.state
+
+abbrev pub merge_refusal_at : ℕ → ℕ → Option ServerCell → Option Refusal
+merge_refusal_at left right None = None
+merge_refusal_at left right (Some cell) = merge_fault_of left right cell.state
 
 -- a server that runs, at its first start
 abbrev pub first_server : ℕ → ℕ → ServerCell

@@ -3,7 +3,8 @@
 //! This crate has no code but the plain values that states are made of, the number of a server's next request, the packets of
 //! reads, and what a client makes of an answer; it touches nothing. Its definitions stand in specs/:
 //! - Past: what a table that is loaded again must be, said of observations alone (`Replays`).
-//! - Range, PlaceReads, Loading, Serving, Getting, Checkpoints, Answering, Splits and Server: the table of a server, as functions of its state.
+//! - Range, PlaceReads, Loading, Serving, Getting, Checkpoints, Answering, Splits, Merges, JoinedRanges and Server: the table of a
+//!   server, as functions of its state.
 //! - Servers: the servers of a run, and what a loaded table shows.
 //! - Map: the partition map, its ranges in the order of their keys, and what changes them: assignments, renewals, splits and
 //!   merges. MapRules: what the map does with each call and packet.
@@ -20,6 +21,7 @@
 mod checkpoint_job;
 mod client_answers;
 mod map_record;
+mod merge_job;
 mod pause;
 mod pending;
 mod place_reads;
@@ -37,6 +39,7 @@ mod waiting;
 pub use checkpoint_job::{CheckpointJob, CheckpointPhase};
 pub use client_answers::take_answer;
 pub use map_record::MapRecord;
+pub use merge_job::{MergeJob, MergePhase, MergeRecord, MergeSide};
 pub use pause::Pause;
 pub use pending::Pending;
 pub use place_reads::{is_at, is_same, moved_on, places_of, reads_page, reads_place};

@@ -69,13 +69,13 @@ pub enum Event {
         range: RangeId,
         combine: bool,
     },
-    /// The operator has a server split a range at a key. No server does it yet, and nothing comes of it.
+    /// The operator has a server split a range at a key.
     Split {
         server: ServerNo,
         range: RangeId,
         key: Bytes,
     },
-    /// The operator has a server merge two ranges that lie side by side. No server does it yet, and nothing comes of it.
+    /// The operator has a server merge two ranges that lie side by side.
     Merge {
         server: ServerNo,
         left: RangeId,

@@ -13,11 +13,13 @@ refusal_of faults.Loading = Some refusals.Loading
 refusal_of faults.Paused = Some refusals.Paused
 refusal_of faults.Busy = Some refusals.Busy
 refusal_of faults.BadSplitKey = Some refusals.BadSplitKey
+refusal_of faults.NotAdjacent = Some refusals.NotAdjacent
+refusal_of faults.TooLarge = Some refusals.TooLarge
 
--- what refuses a checkpoint or a split of a range that the server holds: 38, 34, 35 or 39
+-- what refuses a checkpoint, a split or a merge of ranges that the server holds: 38, 34, 35, 39, 40 or 37
 abbrev pub IsBeginningRefusal : Refusal → Type 0
 IsBeginningRefusal refusal =
-    (refusal ≡ refusals.Loading) ⊎ ((refusal ≡ refusals.Paused) ⊎ ((refusal ≡ refusals.Busy) ⊎ (refusal ≡ refusals.BadSplitKey)))
+    (refusal ≡ refusals.Loading) ⊎ ((refusal ≡ refusals.Paused) ⊎ ((refusal ≡ refusals.Busy) ⊎ ((refusal ≡ refusals.BadSplitKey) ⊎ ((refusal ≡ refusals.NotAdjacent) ⊎ (refusal ≡ refusals.TooLarge)))))
 
 -- the refusal that a call ends with
 abbrev pub refusal_in : {A : Type 0} → Result A RangeFault → Option Refusal

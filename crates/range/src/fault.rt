@@ -7,7 +7,7 @@ use std::alloc::AllocError;
 use thiserror::Error;
 use wire::Refusal;
 
-/// Why a server does not give up on the jobs of a range, or begins no checkpoint or split of it. Nothing has changed then.
+/// Why a server does not give up on the jobs of a range, or begins no checkpoint, split or merge of it. Nothing has changed then.
 #[derive(Clone, Copy, Debug, PartialEq, Eq, Error)]
 pub enum RangeFault {
     /// 22: no memory was left.
@@ -22,12 +22,18 @@ pub enum RangeFault {
     /// 34: the range is paused.
     #[error("the range is paused")]
     Paused,
-    /// 35: a checkpoint or a split of the range is under way.
-    #[error("a checkpoint or a split of the range is under way")]
+    /// 35: a checkpoint, a split or a merge of the range is under way.
+    #[error("a checkpoint, a split or a merge of the range is under way")]
     Busy,
     /// 39: the key does not split the range.
     #[error("the key does not split the range")]
     BadSplitKey,
+    /// 40: the left range does not end where the right one begins.
+    #[error("the ranges do not lie side by side")]
+    NotAdjacent,
+    /// 37: the two ranges have so many indexes that no record would name them.
+    #[error("the ranges have too many indexes")]
+    TooLarge,
 }
 
 impl From<AllocError> for RangeFault {
@@ -50,10 +56,12 @@ impl RangeFault {
             RangeFault::Paused => Some(Refusal::Paused),
             RangeFault::Busy => Some(Refusal::Busy),
             RangeFault::BadSplitKey => Some(Refusal::BadSplitKey),
+            RangeFault::NotAdjacent => Some(Refusal::NotAdjacent),
+            RangeFault::TooLarge => Some(Refusal::TooLarge),
         }
     }
 
-    /// Why no checkpoint or split begins.
+    /// Why no checkpoint, split or merge begins.
     pub(crate) fn of_beginning(refusal: Refusal) -> RangeFault
         requires { IsBeginningRefusal refusal }
         ensures { refusal_of result ≡ Some refusal }
@@ -62,6 +70,8 @@ impl RangeFault {
             Refusal::Loading => RangeFault::Loading,
             Refusal::Paused => RangeFault::Paused,
             Refusal::Busy => RangeFault::Busy,
+            Refusal::NotAdjacent => RangeFault::NotAdjacent,
+            Refusal::TooLarge => RangeFault::TooLarge,
             _ => RangeFault::BadSplitKey,
         }
     }

@@ -11,12 +11,13 @@ ghost use Rattle.range.specs.Faults.{refusal_in};
 
 use crate::answers::{answered_number, is_answerer};
 use crate::fault::RangeFault;
+use crate::merge_jobs::has_jobs;
+use crate::rooms::StepRoom;
 use crate::sent::Sent;
-use crate::settlement::{again_room, step_room};
 use crate::steps::{awaiting, put, refusal};
 use block_types::Nodes;
 use bytes::Bytes;
-use model_partition::{ServerContext, SplitJob, TableView};
+use model_partition::{MergeJob, ServerContext, SplitJob, TableView};
 use range_core::RangeState;
 use std::alloc::{AllocError, Global};
 use std::collections::BTreeMap;
@@ -26,11 +27,13 @@ use wire::{
     TableBody,
 };
 
-/// A partition server, from one start to the next stop: its ranges, and the splits of these that are under way, by their numbers.
+/// A partition server, from one start to the next stop: its ranges and the splits of these that are under way, by their numbers, and
+/// the merges, by those of their left ranges.
 pub struct RangeServer {
     pub(crate) context: ServerContext,
     pub(crate) ranges: BTreeMap<u64, RangeState>,
     pub(crate) splits: BTreeMap<u64, SplitJob>,
+    pub(crate) merges: BTreeMap<u64, MergeJob>,
 }
 
 // Written out, so that a crate above that lets one go has no proof of what is in it.
@@ -40,6 +43,7 @@ impl Drop for RangeServer {
             context: _,
             ranges: _,
             splits: _,
+            merges: _,
         } = self;
     }
 }
@@ -49,7 +53,7 @@ impl Model for RangeServer {
 
     ghost Value = { ServerState };
 
-    ghost view = { λ s. record { context = s.context; ranges = s.ranges.entries; splits = s.splits.entries } };
+    ghost view = { λ s. record { context = s.context; ranges = s.ranges.entries; splits = s.splits.entries; merges = s.merges.entries } };
 }
 
 /// Whether there are numbers for the requests of any one step.
@@ -83,6 +87,7 @@ impl RangeServer {
             },
             ranges: BTreeMap::new(alloc),
             splits: BTreeMap::new(alloc),
+            merges: BTreeMap::new(alloc),
         }
     }
 
@@ -112,7 +117,7 @@ impl RangeServer {
     }
 
     /// A transaction of a user.
-    #[tactic(auto, using(crate::proofs::Entries::found_again, crate::proofs::Entries::set_same, crate::proofs::Settled::stepped_after))]
+    #[tactic(auto, using(crate::proofs::Entries::found_again, crate::proofs::Entries::set_same, crate::proofs::Merged::stepped_after))]
     fn transact(
         &mut self,
         alloc: Global,
@@ -129,7 +134,7 @@ impl RangeServer {
         match self.ranges.get_mut(&range.0) {
             None => self.refuse(alloc, packet.from, request),
             Some(state) => {
-                let room = step_room(alloc, &self.splits, range.0)?;
+                let room = StepRoom::for_step(alloc, &self.splits, &self.merges, range.0)?;
                 match state.transact(alloc, &self.context, packet.from, request, changes) {
                     Ok(taken) => Ok(self.settle(range.0, taken, room)),
                     Err(full) => Err(full),
@@ -139,7 +144,7 @@ impl RangeServer {
     }
 
     /// A Get of a user.
-    #[tactic(auto, using(crate::proofs::Entries::found_again, crate::proofs::Entries::set_same, crate::proofs::Settled::stepped_after))]
+    #[tactic(auto, using(crate::proofs::Entries::found_again, crate::proofs::Entries::set_same, crate::proofs::Merged::stepped_after))]
     fn get(
         &mut self,
         alloc: Global,
@@ -156,7 +161,7 @@ impl RangeServer {
         match self.ranges.get_mut(&range.0) {
             None => self.refuse(alloc, packet.from, request),
             Some(state) => {
-                let room = step_room(alloc, &self.splits, range.0)?;
+                let room = StepRoom::for_step(alloc, &self.splits, &self.merges, range.0)?;
                 match state.get(alloc, &self.context, packet.from, request, key) {
                     Ok(taken) => Ok(self.settle(range.0, taken, room)),
                     Err(full) => Err(full),
@@ -165,8 +170,8 @@ impl RangeServer {
         }
     }
 
-    /// The answer of this number, which a range waits for, or the split of one.
-    #[tactic(auto, using(crate::proofs::Entries::found_again, crate::proofs::Entries::set_same, crate::proofs::Settled::stepped_after))]
+    /// The answer of this number, which a range waits for, or the split of one, or the merge of two.
+    #[tactic(auto, using(crate::proofs::Entries::found_again, crate::proofs::Entries::set_same, crate::proofs::Merged::stepped_after))]
     fn answer(
         &mut self,
         alloc: Global,
@@ -182,10 +187,13 @@ impl RangeServer {
         let Some(range) = awaiting(&self.ranges, request) else {
             return self.split_answer(alloc, packet, request);
         };
+        if let Some(trim) = self.left_trim(range, request, packet) {
+            return self.left_ended(alloc, range, trim);
+        }
         match self.ranges.get_mut(&range) {
             None => Ok(Sent::nothing(alloc)),
             Some(state) => {
-                let room = step_room(alloc, &self.splits, range)?;
+                let room = StepRoom::for_step(alloc, &self.splits, &self.merges, range)?;
                 match state.answer(alloc, &self.context, request, packet) {
                     Ok(taken) => Ok(self.settle(range, taken, room)),
                     Err(full) => Err(full),
@@ -286,7 +294,7 @@ impl RangeServer {
         Ok((state, packets))
     }
 
-    /// What was known of the range goes, its split among it, and its streams are opened.
+    /// What was known of the range goes, its split or its merge among it, and its streams are opened.
     fn assign(
         &mut self,
         alloc: Global,
@@ -308,6 +316,7 @@ impl RangeServer {
         put(&mut self.ranges, range.0, state)?;
         drop(self.splits.remove(&range.0));
         self.context.count += 1;
+        self.end_merge_of(range.0);
         Ok(Sent {
             packets,
             notes: Vec::new(alloc),
@@ -381,10 +390,10 @@ impl RangeServer {
         }
     }
 
-    /// The jobs of a range give up on the answers that they wait for, its split behind them, and new extents are made on these nodes from now on.
+    /// The jobs of a range give up on the answers that they wait for, its split or its merge behind them, and new extents are made on these nodes from now on.
     /// 22: no memory. 30: the server does not hold the range. After a refusal nothing has changed. A server with no numbers left
     /// for its requests does nothing, and makes new extents on the nodes that it had.
-    #[tactic(auto, using(crate::proofs::Entries::found_again, crate::proofs::Entries::set_same, crate::proofs::Settled::given_up_after))]
+    #[tactic(auto, using(crate::proofs::Entries::found_again, crate::proofs::Entries::set_same, crate::proofs::Merged::given_up_after))]
     pub fn give_up(
         &mut self,
         alloc: Global,
@@ -406,7 +415,7 @@ impl RangeServer {
                 if !has_numbers(&told) {
                     return Ok(Sent::nothing(alloc));
                 }
-                let room = again_room(alloc, &self.splits, range.0)?;
+                let room = StepRoom::for_give_up(alloc, &self.splits, &self.merges, range.0)?;
                 match state.give_up(alloc, &told) {
                     Ok(taken) => {
                         self.context = told;
@@ -422,8 +431,8 @@ impl RangeServer {
     /// combines, which is asked or comes of 16 indexes, the pages of its indexes are read first, and what they and the memory
     /// table say together is written, in place of all older indexes.
     /// 22: no memory. 30: the server does not hold the range. 38: the range is not served yet. 34: it is paused.
-    /// 35: a checkpoint or a split of it is under way. After a refusal nothing has changed. A server with no numbers left for its requests does nothing.
-    #[tactic(auto, using(crate::proofs::Entries::found_again, crate::proofs::Entries::set_same, crate::proofs::Settled::stepped_after, crate::proofs::Checkpoints::refused_so))]
+    /// 35: a checkpoint, a split or a merge of it is under way. After a refusal nothing has changed. A server with no numbers left for its requests does nothing.
+    #[tactic(auto, using(crate::proofs::Entries::found_again, crate::proofs::Entries::set_same, crate::proofs::Merged::stepped_after, crate::proofs::Checkpoints::refused_so))]
     pub fn checkpoint(
         &mut self,
         alloc: Global,
@@ -441,14 +450,14 @@ impl RangeServer {
         if let Some(refusal) = state.checkpoint_fault() {
             return Err(RangeFault::of_beginning(refusal));
         }
-        if self.splits.contains_key(&range.0) {
+        if has_jobs(&self.splits, &self.merges, range.0) {
             return Err(RangeFault::Busy);
         }
         if !has_numbers(&self.context) {
             return Ok(Sent::nothing(alloc));
         }
         match state.checkpoint(alloc, &self.context, combine) {
-            Ok(taken) => Ok(self.settle(range.0, taken, None)),
+            Ok(taken) => Ok(self.settle(range.0, taken, StepRoom::nothing())),
             Err(_full) => Err(RangeFault::Memory),
         }
     }

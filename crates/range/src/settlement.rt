@@ -1,47 +1,18 @@
-//! What a step of a range leaves at its server, and what then comes of its split.
-ghost use Rattle.std.specs.Prelude.{◌≡◌, ◌≤◌, List, Some, None, true, length, IfOk};
+//! What a step of a range leaves at its server, and what then comes of its split or its merge.
+ghost use Rattle.std.specs.Prelude.{◌≡◌, ◌≤◌, List, Some, None, true, length};
 ghost use Rattle.model_partition.specs.Range.{RangeState as RangeStateOf};
-ghost use Rattle.model_partition.specs.Server.{range_of, split_of, stepped, given_up, ended_with};
+ghost use Rattle.model_partition.specs.Server.{range_of, split_of, merge_with, stepped, stepped_apart, given_up, given_up_with, ended_with};
 ghost use Rattle.model_partition.specs.declared.table_note.TableNote.{TableNote};
 ghost use Rattle.range_core.specs.Steps as steps;
-ghost use Rattle.range.specs.ServerStep.{IsShort, again_room, outcome, sends, step_room, step_to};
+ghost use Rattle.range.specs.ServerStep.{IsShort, merge_again, merge_by, merge_room, outcome, sends, split_again, split_room, step_to};
 
+use crate::merge_jobs::merge_with;
+use crate::rooms::StepRoom;
 use crate::sent::Sent;
 use crate::server::RangeServer;
-use model_partition::SplitJob;
 use range_core::RangeStep;
 use range_split::{SplitRoom, follow, give_up};
-use std::alloc::{AllocError, Global};
-use std::collections::BTreeMap;
 use wire::Packet;
-
-/// Room for what comes of the split of a range behind a step of it, if one is under way and anything may come.
-pub(crate) fn step_room(
-    alloc: Global,
-    splits: &BTreeMap<u64, SplitJob>,
-    range: u64,
-) -> Result<Option<SplitRoom>, AllocError>
-    ensures { IfOk result (λ room. room ≡ step_room (split_of splits.now.entries range)) }
-{
-    match splits.get(&range) {
-        None => Ok(None),
-        Some(job) => SplitRoom::for_step(alloc, job),
-    }
-}
-
-/// Room for what the split of a range asks again, if one is under way.
-pub(crate) fn again_room(
-    alloc: Global,
-    splits: &BTreeMap<u64, SplitJob>,
-    range: u64,
-) -> Result<Option<SplitRoom>, AllocError>
-    ensures { IfOk result (λ room. room ≡ again_room (split_of splits.now.entries range)) }
-{
-    match splits.get(&range) {
-        None => Ok(None),
-        Some(job) => Ok(Some(SplitRoom::for_give_up(alloc, job)?)),
-    }
-}
 
 impl RangeServer {
     /// The range goes, and its split with it.
@@ -61,10 +32,10 @@ impl RangeServer {
     /// What comes of the split of a range behind a step that did not drop it, and sent these packets.
     #[tactic(auto, using(crate::proofs::Entries::set_same, crate::proofs::Settled::followed_so, crate::proofs::Settled::nothing_followed, crate::proofs::Settled::none_followed))]
     fn follow(&mut self, range: u64, room: Option<SplitRoom>, sent: Vec<Packet>) -> Vec<Packet>
-        requires room { room ≡ step_room (split_of self.old.splits range) }
+        requires room { room ≡ split_room (split_of self.old.splits range) }
         requires few { length sent.items ≤ 1400 }
         ensures value { (r : RangeStateOf) (notes : List TableNote) → range_of self.old.ranges range ≡ Some r
-            → stepped self.old range (step_to self.old r sent.items notes)
+            → stepped_apart self.old range (step_to self.old r sent.items notes)
             ≡ record { after = self.new; packets = result.items; notes = notes } }
         ensures few { length result.items ≤ 1401 }
     {
@@ -82,13 +53,13 @@ impl RangeServer {
         taken.packets
     }
 
-    /// What a step of a range leaves, and what its split then does, with the room that was made before.
+    /// What a step of a range that is no part of a merge leaves, and what its split then does.
     #[tactic(auto, using(crate::proofs::Settled::stepped_dropped))]
-    pub(crate) fn settle(&mut self, range: u64, taken: RangeStep, room: Option<SplitRoom>) -> Sent
-        requires room { room ≡ step_room (split_of self.old.splits range) }
+    fn settle_apart(&mut self, range: u64, taken: RangeStep, room: Option<SplitRoom>) -> Sent
+        requires room { room ≡ split_room (split_of self.old.splits range) }
         requires short { steps.IsShort taken }
         ensures value { (r : RangeStateOf) → range_of self.old.ranges range ≡ Some r
-            → stepped self.old range (steps.outcome taken r) ≡ outcome result self.new }
+            → stepped_apart self.old range (steps.outcome taken r) ≡ outcome result self.new }
         ensures short { IsShort result }
     {
         if taken.dropped {
@@ -105,10 +76,10 @@ impl RangeServer {
     /// What the split of a range asks again, behind a range that was not dropped, and sent these packets.
     #[tactic(auto, using(crate::proofs::Entries::set_same, crate::proofs::Settled::asked_so, crate::proofs::Settled::none_asked))]
     fn ask_again(&mut self, range: u64, room: Option<SplitRoom>, sent: Vec<Packet>) -> Vec<Packet>
-        requires room { room ≡ again_room (split_of self.old.splits range) }
+        requires room { room ≡ split_again (split_of self.old.splits range) }
         requires few { length sent.items ≤ 1400 }
         ensures value { (r : RangeStateOf) (notes : List TableNote) → range_of self.old.ranges range ≡ Some r
-            → given_up self.old range (split_of self.old.splits range) (step_to self.old r sent.items notes)
+            → given_up_with self.old range (split_of self.old.splits range) (step_to self.old r sent.items notes)
             ≡ record { after = self.new; packets = result.items; notes = notes } }
         ensures few { length result.items ≤ 1401 }
     {
@@ -126,18 +97,13 @@ impl RangeServer {
         taken.packets
     }
 
-    /// What giving up on what a range waits for leaves, and what its split then asks again, with the room that was made before.
+    /// What giving up on what a range that is no part of a merge waits for leaves, and what its split then asks again.
     #[tactic(auto, using(crate::proofs::Settled::given_up_dropped))]
-    pub(crate) fn settle_again(
-        &mut self,
-        range: u64,
-        taken: RangeStep,
-        room: Option<SplitRoom>,
-    ) -> Sent
-        requires room { room ≡ again_room (split_of self.old.splits range) }
+    fn settle_apart_again(&mut self, range: u64, taken: RangeStep, room: Option<SplitRoom>) -> Sent
+        requires room { room ≡ split_again (split_of self.old.splits range) }
         requires short { steps.IsShort taken }
         ensures value { (r : RangeStateOf) → range_of self.old.ranges range ≡ Some r
-            → given_up self.old range (split_of self.old.splits range) (steps.outcome taken r) ≡ outcome result self.new }
+            → given_up_with self.old range (split_of self.old.splits range) (steps.outcome taken r) ≡ outcome result self.new }
         ensures short { IsShort result }
     {
         if taken.dropped {
@@ -149,5 +115,44 @@ impl RangeServer {
             packets: self.ask_again(range, room, packets),
             notes,
         }
+    }
+
+    /// What a step of a range leaves, and what its split or its merge then does, with the room that was made before.
+    pub(crate) fn settle(&mut self, range: u64, taken: RangeStep, room: StepRoom) -> Sent
+        requires split { room.split ≡ split_room (split_of self.old.splits range) }
+        requires merge { room.merge ≡ merge_room (merge_by self.old.merges range) }
+        requires short { steps.IsShort taken }
+        ensures value { (r : RangeStateOf) → range_of self.old.ranges range ≡ Some r
+            → stepped self.old range (steps.outcome taken r) ≡ outcome result self.new }
+        ensures short { IsShort result }
+    {
+        let StepRoom { split, merge } = room;
+        let Some(left) = merge_with(&self.merges, range) else {
+            return self.settle_apart(range, taken, split);
+        };
+        if !self.merges.contains_key(&left) {
+            return self.settle_apart(range, taken, split);
+        }
+        self.settle_merged(range, left, taken, merge)
+    }
+
+    /// What giving up on what a range waits for leaves, and what its split or its merge then asks again, with the room that was made
+    /// before.
+    pub(crate) fn settle_again(&mut self, range: u64, taken: RangeStep, room: StepRoom) -> Sent
+        requires split { room.split ≡ split_again (split_of self.old.splits range) }
+        requires merge { room.merge ≡ merge_again (merge_by self.old.merges range) }
+        requires short { steps.IsShort taken }
+        ensures value { (r : RangeStateOf) → range_of self.old.ranges range ≡ Some r
+            → given_up self.old range (merge_with self.old.merges range) (steps.outcome taken r) ≡ outcome result self.new }
+        ensures short { IsShort result }
+    {
+        let StepRoom { split, merge } = room;
+        let Some(left) = merge_with(&self.merges, range) else {
+            return self.settle_apart_again(range, taken, split);
+        };
+        if !self.merges.contains_key(&left) {
+            return self.settle_apart_again(range, taken, split);
+        }
+        self.settle_merged_again(range, left, taken, merge)
     }
 }

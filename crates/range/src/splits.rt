@@ -6,6 +6,7 @@ ghost use Rattle.range.specs.ServerStep.{IsShort, outcome};
 ghost use Rattle.range.specs.Faults.{refusal_in};
 
 use crate::fault::RangeFault;
+use crate::merge_jobs::has_jobs;
 use crate::sent::Sent;
 use crate::server::{RangeServer, has_numbers};
 use crate::steps::put;
@@ -34,6 +35,7 @@ impl RangeServer {
         ensures context { self.new.context ≡ record self.old.context { count = taken.count } }
         ensures ranges { self.new.ranges ≡ (if taken.dropped then set_range self.old.ranges range None else self.old.ranges) }
         ensures splits { self.new.splits ≡ (if taken.ended then set_split self.old.splits range None else self.old.splits) }
+        ensures merges { self.new.merges ≡ self.old.merges }
         ensures sent { result ≡ record { packets = taken.packets; notes = [] } }
     {
         self.context.count = taken.count;
@@ -49,7 +51,7 @@ impl RangeServer {
         }
     }
 
-    /// The answer of this number, which no range waits for: it goes to the split that does.
+    /// The answer of this number, which no range waits for: it goes to the split that does, or else to the merge.
     #[tactic(auto, using(crate::proofs::Entries::set_same))]
     pub(crate) fn split_answer(
         &mut self,
@@ -58,12 +60,12 @@ impl RangeServer {
         request: &ReqNo,
     ) -> Result<Sent, AllocError>
         requires numbers { self.old.context.count + 1024 < 2 ^ 64 }
-        ensures ok { IfOk result (λ t. rules.split_answer self.old packet.now (split_awaiting self.old.splits request.now) ≡ outcome t self.new) }
+        ensures ok { IfOk result (λ t. rules.split_answer self.old packet.now request.now (split_awaiting self.old.splits request.now) ≡ outcome t self.new) }
         ensures err { OnErr result (self.new ≡ self.old) }
         ensures short { IfOk result IsShort }
     {
         let Some(range) = split_awaiting(&self.splits, request) else {
-            return Ok(Sent::nothing(alloc));
+            return self.merge_answer(alloc, packet, request);
         };
         let Some(state) = self.ranges.get_mut(&range) else {
             return Ok(Sent::nothing(alloc));
@@ -80,7 +82,7 @@ impl RangeServer {
     /// A split of a range at a key begins: the map is asked for the numbers of the two ranges that it makes, and it goes on by the
     /// answers, and behind the steps of the range. The range goes once the map has put the two in its place.
     /// 22: no memory. 30: the server does not hold the range. 38: the range is not served yet. 34: it is paused.
-    /// 35: a checkpoint or a split of it is under way. 39: the key does not split it. After a refusal nothing has changed. A server
+    /// 35: a checkpoint, a split or a merge of it is under way. 39: the key does not split it. After a refusal nothing has changed. A server
     /// with no numbers left for its requests does nothing.
     #[tactic(auto, using(crate::proofs::Entries::set_same))]
     pub fn split(&mut self, alloc: Global, range: RangeId, key: &Bytes) -> Result<Sent, RangeFault>
@@ -92,7 +94,8 @@ impl RangeServer {
         let Some(state) = self.ranges.get(&range.0) else {
             return Err(RangeFault::NotOwner);
         };
-        if let Some(refusal) = split_fault(state, self.splits.contains_key(&range.0), key) {
+        let jobs = has_jobs(&self.splits, &self.merges, range.0);
+        if let Some(refusal) = split_fault(state, jobs, key) {
             return Err(RangeFault::of_beginning(refusal));
         }
         if !has_numbers(&self.context) {

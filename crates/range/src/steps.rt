@@ -42,7 +42,7 @@ pub(crate) fn refusal(
     }
 }
 
-/// Holds a range, or a split, under a number from now on, in place of what was known of it. Where memory runs out (22) nothing has
+/// Holds a range, a split or a merge, under a number from now on, in place of what was known of it. Where memory runs out (22) nothing has
 /// changed.
 pub(crate) fn put<T: Drop>(
     held: &mut BTreeMap<u64, T>,

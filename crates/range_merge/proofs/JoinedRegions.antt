@@ -1,10 +1,10 @@
 -- Regions whose indexes have no bytes.
-use Rattle.std.proofs.Common.{◌≡◌, ℕ, suc, ◌+◌, ◌<◌, ◌≤◌, ◌^◌, Bool, true, false, List, [], ◌∷◌, ◌++◌, length, Option, Some, None, refl, sym, ap, subst, ◌∙◌, arith}
-use Rattle.std.specs.Prelude.{◌&&◌, nat_lt}
+use Rattle.std.proofs.Common.{◌≡◌, ℕ, suc, ◌+◌, ◌<◌, ◌≤◌, ◌^◌, true, false, [], ◌∷◌, ◌++◌, length, sym, ap, ◌∙◌, arith}
+use Rattle.std.specs.Prelude.{nat_lt}
 use Rattle.std.specs.List.{list_all}
 use Rattle.std.proofs.lemmas.Bool.{and_left, leb-false, lt-leb}
 use Rattle.model_partition.specs.Range.{RangeState}
-use Rattle.range_merge.specs.JoinedRanges.{are_record_keys, closed_regions, is_record_next, is_record_position, is_record_region, is_record_upto, joined_end, joined_regions, log_end, open_region}
+use Rattle.model_partition.specs.JoinedRanges.{closed_regions, is_record_position, is_record_region, joined_end, joined_regions, log_end, open_region}
 use Rattle.range_merge.proofs.RecordSizes.{none_before, none_behind}
 
 open_none : (l r : RangeState) → nat_lt (joined_end l r) (2 ^ 64) ≡ false → is_record_region (open_region l r) ≡ false

@@ -13,12 +13,12 @@ use Rattle.model_partition.specs.Range.{RangeState, request, given, picking}
 use Rattle.range_checkpoint.proofs.Stood.{stood}
 use Rattle.range_checkpoint.proofs.Told.{is_append, other}
 use Rattle.range_checkpoint.specs.Steps.{appended}
-use Rattle.range_merge.specs.declared.merge_job.MergeJob.{MergeJob}
-use Rattle.range_merge.specs.declared.merge_job.MergePhase.{MergePhase}
-use Rattle.range_merge.specs.declared.merge_job.MergePhase.TheVariants as phases
-use Rattle.range_merge.specs.declared.merge_job.MergeRecord.{MergeRecord}
-use Rattle.range_merge.specs.declared.merge_job.MergeRecord.TheVariants as records
-use Rattle.range_merge.specs.Merges.{appends_record, completes, goes, may_write, merge_reply, merge_reply_in, record_of, record_stands, stays, with_phase, write_reply, write_told}
+use Rattle.model_partition.specs.declared.merge_job.MergeJob.{MergeJob}
+use Rattle.model_partition.specs.declared.merge_job.MergePhase.{MergePhase}
+use Rattle.model_partition.specs.declared.merge_job.MergePhase.TheVariants as phases
+use Rattle.model_partition.specs.declared.merge_job.MergeRecord.{MergeRecord}
+use Rattle.model_partition.specs.declared.merge_job.MergeRecord.TheVariants as records
+use Rattle.model_partition.specs.Merges.{appends_record, completes, goes, may_write, merge_reply, merge_reply_in, record_of, record_stands, stays, with_phase, write_reply, write_told}
 use Rattle.range_merge.specs.Steps.{MergeTaken, goes_on, outcome}
 use Rattle.range_merge.specs.WriteAnswers.{other_told, record_stood}
 

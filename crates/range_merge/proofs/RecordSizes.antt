@@ -12,8 +12,8 @@ use Rattle.metadata.specs.declared.record.KeyRange.{KeyRange}
 use Rattle.metadata.specs.declared.record.MetaItem.TheVariants.{Ranges, Regions}
 use Rattle.metadata.specs.declared.record.Region.{Region}
 use Rattle.metadata.specs.Record.{Fits, IsEnd, IsHigh, IsIndex, IsKeyRange, IsNext, IsPlace, IsPosition, IsRegion, counted, end, high, index, keys, place, position, region, text}
-use Rattle.model_partition.specs.Splits.{is_record_end, is_record_key}
-use Rattle.range_merge.specs.JoinedRanges.{are_few, are_record_keys, are_record_parts, is_record_index, is_record_next, is_record_place, is_record_position, is_record_region, is_record_upto}
+use Rattle.model_partition.specs.Splits.{is_record_end}
+use Rattle.model_partition.specs.JoinedRanges.{are_few, are_record_keys, are_record_parts, is_record_index, is_record_next, is_record_place, is_record_position, is_record_region, is_record_upto}
 
 -- ---- what the tests say
 

@@ -1,14 +1,14 @@
 -- The last extent of a stream is sealed, and the next step follows.
-use Rattle.std.proofs.Common.{◌≡◌, ℕ, suc, ◌+◌, true, false, List, [], ◌∷◌, Option, Some, refl, sym, ap, ◌∙◌, arith}
+use Rattle.std.proofs.Common.{◌≡◌, ℕ, suc, ◌+◌, true, false, List, [], ◌∷◌, Option, Some, sym, ap, ◌∙◌, arith}
 use Rattle.std.specs.Prelude.{if◌then◌else◌}
 use Rattle.wire.specs.declared.packet.Packet.{Packet}
 use Rattle.wire.specs.declared.streams.StreamKind.{StreamKind}
 use Rattle.model_partition.specs.declared.server_context.ServerContext.{ServerContext}
 use Rattle.model_partition.specs.Range.{RangeState}
 use Rattle.model_partition.specs.Splits.{is_extent}
-use Rattle.range_merge.specs.declared.merge_job.MergeJob.{MergeJob}
-use Rattle.range_merge.specs.declared.merge_job.MergeSide.{MergeSide}
-use Rattle.range_merge.specs.Merges.{Part, first_open, goes, last_sealed, open_part, parts_after, seals_among, seals_or_builds, sealed_left, sealed_right, stays}
+use Rattle.model_partition.specs.declared.merge_job.MergeJob.{MergeJob}
+use Rattle.model_partition.specs.declared.merge_job.MergeSide.{MergeSide}
+use Rattle.model_partition.specs.Merges.{Part, first_open, goes, last_sealed, open_part, parts_after, seals_among, seals_or_builds, sealed_left, sealed_right, stays}
 use Rattle.range_merge.specs.Steps.{MergeTaken, outcome}
 
 pub seals_on : (d : ServerContext) (l r : RangeState) (job after : MergeJob) (side : MergeSide) (kind : StreamKind) (e length : ℕ) (x y : RangeState) (found : Option (Part × ℕ)) (packet : Packet)

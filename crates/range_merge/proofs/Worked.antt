@@ -1,5 +1,5 @@
 -- Two ranges whose logs were trimmed are merged: the right regions move behind the left log, wherever their own log begins.
-use Rattle.std.proofs.Common.{◌≡◌, ℕ, List, [], ◌∷◌, Option, Some, None, refl}
+use Rattle.std.proofs.Common.{◌≡◌, ℕ, [], ◌∷◌, Option, Some, None, refl}
 use Rattle.block_types.specs.declared.record.Nodes.{Nodes}
 use Rattle.wire.specs.declared.streams.StreamExtent.{StreamExtent}
 use Rattle.metadata.specs.declared.record.IndexRange.{IndexRange}
@@ -8,7 +8,7 @@ use Rattle.metadata.specs.declared.record.Region.{Region}
 use Rattle.model_partition.specs.declared.server_context.ServerContext.{ServerContext}
 use Rattle.model_partition.specs.Range.{RangeState}
 use Rattle.model_partition.specs.Server.{new_range}
-use Rattle.range_merge.specs.JoinedRanges.{joined_indexes, joined_regions}
+use Rattle.model_partition.specs.JoinedRanges.{joined_indexes, joined_regions}
 
 abbrev nodes : Nodes
 nodes = record { primary = 1; second = 2; third = 3 }
@@ -55,5 +55,5 @@ pub regions_join : joined_regions left right ≡
 regions_join = refl
 
 -- the old index counts once on either side
-pub indexes_join : joined_indexes left right ≡ record old_index { keys = low_keys } ∷ record old_index { keys = high_keys } ∷ []
+pub indexes_join : joined_indexes left right ≡ record old_index { keys = high_keys } ∷ record old_index { keys = low_keys } ∷ []
 indexes_join = refl

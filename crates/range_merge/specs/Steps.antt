@@ -1,13 +1,10 @@
 -- What a step of a merge leaves, as its code says it.
-use Rattle.std.specs.Prelude.{◌≡◌, ℕ, ◌≤◌, Bool, true, List, ◌++◌, length, Option, Some, option_to_list}
+use Rattle.std.specs.Prelude.{ℕ, ◌≤◌, Bool, List, ◌++◌, length, Option, Some, option_to_list, if◌then◌else◌}
 use Rattle.wire.specs.declared.packet.Packet.{Packet}
 use Rattle.model_partition.specs.Range.{RangeState}
-use Rattle.model_partition.specs.Splits.{is_drained}
 use Rattle.range_core.specs.Steps.{unless}
-use Rattle.range_merge.specs.declared.merge_job.MergeJob.{MergeJob}
-use Rattle.range_merge.specs.declared.merge_job.MergePhase.{MergePhase}
-use Rattle.range_merge.specs.declared.merge_job.MergePhase.TheVariants as phases
-use Rattle.range_merge.specs.Merges.{MergeStep}
+use Rattle.model_partition.specs.declared.merge_job.MergeJob.{MergeJob}
+use Rattle.model_partition.specs.Merges.{MergeStep, pausing}
 
 -- whether either range goes, whether their merge has ended, the number of the server's next request, and the packets
 pub record MergeTaken : Type 0 where
@@ -26,6 +23,10 @@ outcome t l r job =
 abbrev pub goes_on : RangeState → RangeState → MergeJob → ℕ → Option Packet → MergeStep
 goes_on l r job count packet = record { left = Some l; right = Some r; job = Some job; count = count; packets = option_to_list packet }
 
+-- a range that is to be paused, if it is
+abbrev pub paused_if : Bool → RangeState → RangeState
+paused_if pauses r = if pauses then pausing r else r
+
 -- the packets of the range's own step come before
 abbrev pub behind : List Packet → MergeStep → MergeStep
 behind packets t = record t { packets = packets ++ t.packets }
@@ -33,14 +34,3 @@ behind packets t = record t { packets = packets ++ t.packets }
 -- no step of a merge sends more
 abbrev pub IsShort : MergeTaken → Type 0
 IsShort t = length t.packets ≤ 1400
-
--- no transaction waits at either of the two
-abbrev pub AreDrained : RangeState → RangeState → Type 0
-AreDrained l r = (is_drained l ≡ true) × (is_drained r ≡ true)
-
--- nor does any from the first seal on
-abbrev pub ArePaused : RangeState → RangeState → MergePhase → Type 0
-ArePaused l r (phases.Begin q) = Unit {0}
-ArePaused l r (phases.Checkpoint side) = Unit {0}
-ArePaused l r phases.Queue = Unit {0}
-ArePaused l r phase = AreDrained l r

@@ -8,11 +8,11 @@ use Rattle.client.specs.Client.{ClientState}
 use Rattle.model_partition.specs.declared.server_context.ServerContext.{ServerContext}
 use Rattle.model_partition.specs.Range.{RangeState}
 use Rattle.range_checkpoint.specs.Steps.{appended}
-use Rattle.range_merge.specs.declared.merge_job.MergeJob.{MergeJob}
-use Rattle.range_merge.specs.declared.merge_job.MergePhase.{MergePhase}
-use Rattle.range_merge.specs.declared.merge_job.MergePhase.TheVariants as phases
-use Rattle.range_merge.specs.declared.merge_job.MergeRecord.{MergeRecord}
-use Rattle.range_merge.specs.Merges.{MergeStep, ends, goes, with_phase}
+use Rattle.model_partition.specs.declared.merge_job.MergeJob.{MergeJob}
+use Rattle.model_partition.specs.declared.merge_job.MergePhase.{MergePhase}
+use Rattle.model_partition.specs.declared.merge_job.MergePhase.TheVariants as phases
+use Rattle.model_partition.specs.declared.merge_job.MergeRecord.{MergeRecord}
+use Rattle.model_partition.specs.Merges.{MergeStep, ends, goes, with_phase}
 
 -- whether a record of the new range is being appended
 abbrev pub is_writing : MergePhase → Bool

@@ -1,19 +1,18 @@
 //! Answers that a merge waits for.
-ghost use Rattle.std.specs.Prelude.{◌≡◌, ◌<◌, ◌+◌, ◌^◌, false, IfOk, OnErr};
+ghost use Rattle.std.specs.Prelude.{◌≡◌, ◌<◌, ◌+◌, ◌^◌, IfOk, OnErr};
 ghost use Rattle.model_partition.specs.Range.{RangeState as RangeStateOf};
 ghost use Rattle.model_partition.specs.Splits.{may_checkpoint};
-ghost use Rattle.range_merge.specs.declared.merge_job.MergeJob.{MergeJob as MergeJobState};
-ghost use Rattle.range_merge.specs.Merges as rules;
-ghost use Rattle.range_merge.specs.Steps.{outcome, AreDrained, ArePaused, IsShort};
+ghost use Rattle.model_partition.specs.declared.merge_job.MergeJob.{MergeJob as MergeJobState};
+ghost use Rattle.model_partition.specs.Merges as rules;
+ghost use Rattle.range_merge.specs.Steps.{outcome, IsShort};
 ghost use Rattle.range_merge.specs.WriteAnswers.{is_writing};
 
 use crate::departures::{ends, loses, parts};
-use crate::merge_job::{MergeJob, MergePhase, MergeSide};
 use crate::seals::{SealedPart, last_sealed};
 use crate::taken::MergeTaken;
 use crate::write_answers::{is_writing, write_reply};
 use crate::writing::{created, creates};
-use model_partition::ServerContext;
+use model_partition::{MergeJob, MergePhase, MergeSide, ServerContext};
 use range_core::RangeState;
 use std::alloc::{AllocError, Global};
 use wire::{AppendBody, Body, MapBody, Packet, RangeId, Refusal, SealBody, StreamBody};
@@ -102,7 +101,7 @@ fn build_refused(
     requires numbers { context.now.count + 1 < 2 ^ 64 }
     ensures ok { IfOk result (λ t. rules.build_refused context.now left.now right.now job.old refusal ≡ outcome t left.now right.now job.new) }
     ensures kept { OnErr result (job.new ≡ job.old) }
-    ensures short { IfOk result (λ t. AreDrained left.now right.now → IsShort t) }
+    ensures short { IfOk result IsShort }
 {
     match refusal {
         Refusal::Stale => ends(alloc, context, left, right),
@@ -123,7 +122,7 @@ fn create_refused(
     requires numbers { context.now.count + 1 < 2 ^ 64 }
     ensures ok { IfOk result (λ t. rules.create_refused context.now left.now right.now job.old refusal ≡ outcome t left.now right.now job.new) }
     ensures kept { OnErr result (job.new ≡ job.old) }
-    ensures short { IfOk result (λ t. AreDrained left.now right.now → IsShort t) }
+    ensures short { IfOk result IsShort }
 {
     match refusal {
         Refusal::Stale => ends(alloc, context, left, right),
@@ -142,7 +141,7 @@ fn complete_refused(
 ) -> Result<MergeTaken, AllocError>
     requires numbers { context.now.count + 1 < 2 ^ 64 }
     ensures ok { IfOk result (λ t. (job : MergeJobState) → rules.complete_refused context.now left.now right.now job refusal ≡ outcome t left.now right.now job) }
-    ensures short { IfOk result (λ t. AreDrained left.now right.now → IsShort t) }
+    ensures short { IfOk result IsShort }
 {
     match refusal {
         Refusal::Stale => ends(alloc, context, left, right),
@@ -165,7 +164,7 @@ fn refused(
     ensures left { OnErr result (left.new ≡ left.old) }
     ensures right { OnErr result (right.new ≡ right.old) }
     ensures kept { OnErr result (job.new ≡ job.old) }
-    ensures short { IfOk result (λ t. ArePaused left.old right.old job.old.phase → IsShort t) }
+    ensures short { IfOk result IsShort }
 {
     match job.phase {
         MergePhase::Begin { .. } => Ok(begin_refused(alloc, context, refusal)),
@@ -190,7 +189,7 @@ fn map_told(
     ensures ok { IfOk result (λ t. rules.map_told context.now left.old right.now job.old job.old.phase body.now ≡ outcome t left.new right.now job.new) }
     ensures left { OnErr result (left.new ≡ left.old) }
     ensures kept { OnErr result (job.new ≡ job.old) }
-    ensures short { IfOk result (λ t. ArePaused left.old right.now job.old.phase → IsShort t) }
+    ensures short { IfOk result IsShort }
 {
     match job.phase {
         MergePhase::Begin { .. } => match body {
@@ -279,7 +278,7 @@ fn told(
     ensures left { OnErr result (left.new ≡ left.old) }
     ensures right { OnErr result (right.new ≡ right.old) }
     ensures kept { OnErr result (job.new ≡ job.old) }
-    ensures short { IfOk result (λ t. ArePaused left.old right.old job.old.phase → IsShort t) }
+    ensures short { IfOk result IsShort }
 {
     match body {
         Body::Append(body) => match body {
@@ -316,7 +315,7 @@ pub fn reply(
     ensures left { OnErr result (left.new ≡ left.old) }
     ensures right { OnErr result (right.new ≡ right.old) }
     ensures kept { OnErr result (job.new ≡ job.old) }
-    ensures short { IfOk result (λ t. ArePaused left.old right.old job.old.phase → IsShort t) }
+    ensures short { IfOk result IsShort }
 {
     if is_writing(&job.phase) {
         return write_reply(alloc, context, left, right, job, packet);

@@ -1,9 +1,8 @@
 //! Which answers a merge waits for.
 ghost use Rattle.std.specs.Prelude.{◌≡◌};
-ghost use Rattle.range_merge.specs.Merges.{phase_awaits};
+ghost use Rattle.model_partition.specs.Merges.{phase_awaits};
 
-use crate::merge_job::{MergeJob, MergePhase};
-use model_partition::is_same;
+use model_partition::{MergeJob, MergePhase, is_same};
 use wire::ReqNo;
 
 /// Whether the merge waits for an answer of this number. While a range itself is at work for it, it waits for none.

@@ -2,13 +2,12 @@
 ghost use Rattle.std.specs.Prelude.{◌≡◌};
 ghost use Rattle.model_partition.specs.MapRules as map;
 ghost use Rattle.model_partition.specs.Range.{is_serving, request};
-ghost use Rattle.range_merge.specs.Merges as rules;
+ghost use Rattle.model_partition.specs.Merges as rules;
 
-use crate::merge_job::{MergeJob, MergePhase};
 use crate::packets::begin_packet;
 use bytes::Bytes;
 use metadata::KeyRange;
-use model_partition::{ServerContext, Stage, next_request};
+use model_partition::{MergeJob, MergePhase, ServerContext, Stage, next_request};
 use range_core::RangeState;
 use wire::{Packet, RangeId, Refusal};
 

@@ -1,8 +1,8 @@
 //! The streams of the new range that are built, each from those of the two of its kind.
 ghost use Rattle.std.specs.Prelude.{◌≡◌, IfOk};
-ghost use Rattle.range_merge.specs.Merges as rules;
+ghost use Rattle.model_partition.specs.Merges as rules;
 
-use crate::merge_job::MergeJob;
+use model_partition::MergeJob;
 use std::alloc::{AllocError, Global};
 use wire::{Fence, Modifies, Modify, RangeId, Source, Sources, StreamKind, StreamName};
 

@@ -1,17 +1,14 @@
 //! What comes of a merge that loses a range, or both.
-ghost use Rattle.std.specs.Prelude.{◌≡◌, ◌<◌, ◌≤◌, ◌+◌, ◌^◌, true, length, IfOk, OnErr};
-ghost use Rattle.model_partition.specs.Range.{RangeState as RangeStateOf, refused_users};
-ghost use Rattle.model_partition.specs.Splits.{is_drained};
-ghost use Rattle.range_merge.specs.declared.merge_job.MergeJob.{MergeJob as MergeJobState};
-ghost use Rattle.range_merge.specs.Merges as rules;
-ghost use Rattle.range_merge.specs.Steps.{outcome, AreDrained, IsShort};
+ghost use Rattle.std.specs.Prelude.{◌≡◌, ◌<◌, ◌+◌, ◌^◌, IfOk, OnErr};
+ghost use Rattle.model_partition.specs.Range.{RangeState as RangeStateOf};
+ghost use Rattle.model_partition.specs.declared.merge_job.MergeJob.{MergeJob as MergeJobState};
+ghost use Rattle.model_partition.specs.Merges as rules;
+ghost use Rattle.range_merge.specs.Steps.{outcome, IsShort};
 
-use crate::merge_job::MergeSide;
 use crate::taken::MergeTaken;
-use model_partition::{Pause, ServerContext};
+use model_partition::{MergeSide, Pause, ServerContext};
 use range_core::RangeState;
 use std::alloc::{AllocError, Global};
-use wire::Packet;
 
 /// A range whose merge is no more: one that is paused stays so, and another takes transactions again.
 pub fn free(state: &mut RangeState)
@@ -24,24 +21,8 @@ pub fn free(state: &mut RangeState)
     }
 }
 
-/// What those who wait are told where the range goes: that this server does not hold it (30). Where no transaction waits these are at
-/// most 256 packets. An error is out of memory (22).
-fn farewell(
-    alloc: Global,
-    context: &ServerContext,
-    state: &RangeState,
-) -> Result<Vec<Packet>, AllocError>
-    ensures packets { IfOk result (λ packets. packets.items ≡ refused_users context.now state.now) }
-    ensures few { IfOk result (λ packets. length packets.items ≤ 1280) }
-    ensures fewer { is_drained state.now ≡ true → IfOk result (λ packets. length packets.items ≤ 256) }
-{
-    if state.is_drained() {
-        return state.lookups.refusals(alloc, context);
-    }
-    state.refusals(alloc, context)
-}
-
-/// Both ranges go, and their merge with them.
+/// Both ranges go, and their merge with them; the Gets that wait there, at most 256 at each, are told that this server does not hold
+/// the range (30). An error is out of memory (22).
 pub(crate) fn ends(
     alloc: Global,
     context: &ServerContext,
@@ -50,15 +31,15 @@ pub(crate) fn ends(
 ) -> Result<MergeTaken, AllocError>
     requires numbers { context.now.count + 1 < 2 ^ 64 }
     ensures ok { IfOk result (λ t. (job : MergeJobState) → rules.ends context.now left.now right.now ≡ outcome t left.now right.now job) }
-    ensures short { IfOk result (λ t. AreDrained left.now right.now → IsShort t) }
+    ensures short { IfOk result IsShort }
 {
-    let mut packets = farewell(alloc, context, left)?;
-    let mut others = farewell(alloc, context, right)?;
+    let mut packets = left.lookups.refusals(alloc, context)?;
+    let mut others = right.lookups.refusals(alloc, context)?;
     packets.append(&mut others)?;
     Ok(MergeTaken::ends(true, true, context.count + 1, packets))
 }
 
-/// One of the two goes, and the merge with it; the other is freed. Where memory runs out (22) nothing has changed.
+/// One of the two goes, whose Gets are told so, and the merge with it; the other is freed. Where memory runs out (22) nothing has changed.
 pub(crate) fn loses(
     alloc: Global,
     context: &ServerContext,
@@ -74,12 +55,12 @@ pub(crate) fn loses(
 {
     match side {
         MergeSide::Left => {
-            let packets = farewell(alloc, context, left)?;
+            let packets = left.lookups.refusals(alloc, context)?;
             free(right);
             Ok(MergeTaken::ends(true, false, context.count + 1, packets))
         }
         MergeSide::Right => {
-            let packets = farewell(alloc, context, right)?;
+            let packets = right.lookups.refusals(alloc, context)?;
             free(left);
             Ok(MergeTaken::ends(false, true, context.count + 1, packets))
         }

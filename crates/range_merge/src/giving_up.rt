@@ -3,12 +3,11 @@ ghost use Rattle.std.specs.Prelude.{◌≡◌, ◌<◌, ◌≤◌, ◌+◌, ◌^
 ghost use Rattle.client.specs.Client.{give_up_rule};
 ghost use Rattle.model_partition.specs.Range.{RangeState as RangeStateOf, picking, request};
 ghost use Rattle.model_partition.specs.Splits.{seal_again};
-ghost use Rattle.range_merge.specs.Merges as rules;
+ghost use Rattle.model_partition.specs.Merges as rules;
 ghost use Rattle.range_merge.specs.Rooms.{again_room_of};
 ghost use Rattle.range_merge.specs.Steps.{behind, goes_on, outcome};
 ghost use Rattle.range_merge.specs.WriteAnswers.{is_writing};
 
-use crate::merge_job::{MergeJob, MergePhase, MergeSide};
 use crate::next_packet::{NextPacket, has_number};
 use crate::packets::{begin_packet, build_packet, complete_packet, create_packet, seal_packet};
 use crate::room::MergeRoom;
@@ -16,7 +15,7 @@ use crate::seals::open_part;
 use crate::taken::{MergeTaken, append_reserved, push_some};
 use crate::write_answers::is_writing;
 use client::StreamClient;
-use model_partition::{ServerContext, next_request};
+use model_partition::{MergeJob, MergePhase, MergeSide, ServerContext, next_request};
 use range_core::RangeState;
 use wire::{Modifies, Packet, ReqNo, StreamKind};
 

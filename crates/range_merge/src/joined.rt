@@ -1,7 +1,7 @@
 //! The indexes and the regions of two ranges that are merged.
 ghost use Rattle.std.specs.Prelude.{◌≡◌, ◌^◌, false, map, nat_lt, IfOk, IfSome, IfNone};
 ghost use Rattle.std.specs.List.{list_all};
-ghost use Rattle.range_merge.specs.JoinedRanges as specs;
+ghost use Rattle.model_partition.specs.JoinedRanges as specs;
 
 use crate::key_ranges::meet;
 use client::StreamClient;

@@ -1,7 +1,7 @@
 //! Keys of two ranges that are merged.
 ghost use Rattle.std.specs.Prelude.{◌≡◌, IfOk};
 ghost use Rattle.model_partition.specs.Splits.{is_record_end};
-ghost use Rattle.range_merge.specs.JoinedRanges as specs;
+ghost use Rattle.model_partition.specs.JoinedRanges as specs;
 
 use bytes::Bytes;
 use memtable::MAX_KEY;

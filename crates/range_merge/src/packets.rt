@@ -2,11 +2,10 @@
 ghost use Rattle.std.specs.Prelude.{◌≡◌};
 ghost use Rattle.model_partition.specs.Range.{tells};
 ghost use Rattle.model_partition.specs.Splits.{seal_packet};
-ghost use Rattle.range_merge.specs.declared.merge_job.MergeJob.{MergeJob as MergeJobState};
-ghost use Rattle.range_merge.specs.Merges as rules;
+ghost use Rattle.model_partition.specs.declared.merge_job.MergeJob.{MergeJob as MergeJobState};
+ghost use Rattle.model_partition.specs.Merges as rules;
 
-use crate::merge_job::MergeJob;
-use model_partition::ServerContext;
+use model_partition::{MergeJob, ServerContext};
 use wire::{
     ActorId, Body, ExtentId, Fence, MapBody, Modifies, Packet, ReqNo, SealBody, StreamBody,
     StreamKind, StreamName,

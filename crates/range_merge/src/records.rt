@@ -3,15 +3,15 @@ ghost use Rattle.std.specs.Prelude.{◌≡◌, ◌∷◌, ◌^◌, [], true, fal
 ghost use Rattle.std.specs.List.{list_all};
 ghost use Rattle.metadata.specs.declared.record.MetaItem.TheVariants.{Ranges, Regions as RegionsItem};
 ghost use Rattle.metadata.specs.Record.{Fits, IsKeyRange, spelling};
-ghost use Rattle.range_merge.specs.JoinedRanges as specs;
-ghost use Rattle.range_merge.specs.Merges as rules;
+ghost use Rattle.model_partition.specs.JoinedRanges as specs;
+ghost use Rattle.model_partition.specs.Merges as rules;
 
 use crate::joined::{closed_regions, cut_indexes, log_end};
 use crate::key_ranges::{are_record_keys, joined_keys};
-use crate::merge_job::MergeRecord;
 use client::Appending;
 use memtable::Place;
 use metadata::{IndexRange, IndexRanges, KeyRange, MetaItem, MetaRecord, Region, Regions, encode};
+use model_partition::MergeRecord;
 use range_checkpoint::appending_of;
 use range_core::RangeState;
 use std::alloc::{AllocError, Global};
@@ -177,7 +177,7 @@ fn open_region(index: u64, left: &KeyRange, right: &KeyRange) -> Result<Region, 
     })
 }
 
-/// The indexes of the left range and then those of the right one. An error is out of memory (22).
+/// The indexes of the left range as the older ones, which stand last, and those of the right one. An error is out of memory (22).
 fn joined_indexes(
     alloc: Global,
     left: &RangeState,
@@ -185,8 +185,8 @@ fn joined_indexes(
 ) -> Result<Vec<IndexRange>, AllocError>
     ensures { IfOk result (λ made. made.items ≡ specs.joined_indexes left.now right.now) }
 {
-    let mut made = cut_indexes(alloc, &left.content.said)?;
-    let mut others = cut_indexes(alloc, &right.content.said)?;
+    let mut made = cut_indexes(alloc, &right.content.said)?;
+    let mut others = cut_indexes(alloc, &left.content.said)?;
     made.append(&mut others)?;
     Ok(made)
 }

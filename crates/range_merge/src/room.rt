@@ -3,7 +3,7 @@ ghost use Rattle.std.specs.Prelude.{◌≡◌, IfOk};
 ghost use Rattle.range_merge.specs.Rooms.{room_of, again_room_of};
 
 use crate::built_streams::all_streams;
-use crate::merge_job::{MergeJob, MergePhase, MergeSide};
+use model_partition::{MergeJob, MergePhase, MergeSide};
 use std::alloc::{AllocError, Global};
 use std::marker::Model;
 use wire::{Modifies, Packet};

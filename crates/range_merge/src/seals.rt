@@ -4,15 +4,14 @@ ghost use Rattle.wire.specs.declared.streams.StreamKind.TheVariants as kinds;
 ghost use Rattle.client.specs.Client.{sealed_last};
 ghost use Rattle.model_partition.specs.Range as ranges;
 ghost use Rattle.model_partition.specs.Splits as splits;
-ghost use Rattle.range_merge.specs.declared.merge_job.MergeSide.TheVariants as sides;
-ghost use Rattle.range_merge.specs.Merges as rules;
+ghost use Rattle.model_partition.specs.declared.merge_job.MergeSide.TheVariants as sides;
+ghost use Rattle.model_partition.specs.Merges as rules;
 ghost use Rattle.range_merge.specs.Steps.{outcome, IsShort};
 
 use crate::built_streams::all_streams;
-use crate::merge_job::{MergeJob, MergePhase, MergeSide};
 use crate::packets::{build_packet, seal_packet};
 use crate::taken::MergeTaken;
-use model_partition::{ServerContext, next_request};
+use model_partition::{MergeJob, MergePhase, MergeSide, ServerContext, next_request};
 use range_core::RangeState;
 use std::alloc::{AllocError, Global};
 use wire::{ExtentId, Modifies, Packet, StreamExtent, StreamKind};

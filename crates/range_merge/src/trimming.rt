@@ -1,25 +1,24 @@
 //! The checkpoint of the left range ends, and that of the right one begins.
-ghost use Rattle.std.specs.Prelude.{◌≡◌, ◌<◌, ◌≤◌, ◌+◌, ◌-◌, ◌^◌, Bool, false, true, is_some, length, take, drop, IfOk, OnErr};
+ghost use Rattle.std.specs.Prelude.{◌≡◌, ◌<◌, ◌≤◌, ◌+◌, ◌-◌, ◌^◌, Bool, false, length, take, drop, IfOk, OnErr};
 ghost use Rattle.model_partition.specs.Checkpoints as checkpoints;
-ghost use Rattle.range_merge.specs.declared.merge_job.MergePhase.TheVariants as phases;
-ghost use Rattle.range_merge.specs.declared.merge_job.MergeSide.TheVariants as sides;
-ghost use Rattle.range_merge.specs.Merges as rules;
-ghost use Rattle.range_merge.specs.Rooms.{trim_out, trimmed_by};
+ghost use Rattle.model_partition.specs.Merges as rules;
 ghost use Rattle.range_merge.specs.Steps.{outcome, IsShort};
 
 use crate::answers::may_checkpoint;
 use crate::departures::parts;
-use crate::merge_job::{MergeJob, MergePhase, MergeSide};
 use crate::taken::MergeTaken;
 use client::StreamClient;
-use model_partition::{CheckpointJob, CheckpointPhase, RangeContent, ServerContext};
+use model_partition::{
+    CheckpointJob, CheckpointPhase, MergeJob, MergePhase, MergeSide, RangeContent, ServerContext,
+};
+use range_checkpoint::trim_awaits;
 use range_core::{RangeState, RangeStep};
 use std::alloc::{AllocError, Global};
-use wire::{StreamExtent, StreamExtents};
+use wire::{Body, ReqNo, StreamBody, StreamExtent, StreamExtents};
 
 /// The Trim that is out of a checkpoint, if one is: below which index, and whether the extents go to the blob stream.
 fn trim_out(control: &Option<CheckpointJob>) -> Option<(u64, bool)>
-    ensures { result ≡ trim_out control.now }
+    ensures { result ≡ rules.trim_out control.now }
 {
     match control {
         None => None,
@@ -31,6 +30,42 @@ fn trim_out(control: &Option<CheckpointJob>) -> Option<(u64, bool)>
             } => Some((before, to_blob)),
             _ => None,
         },
+    }
+}
+
+/// The Trim that an answer of this number ends.
+fn trim_under(left: &RangeState, request: &ReqNo, body: &StreamBody) -> Option<(u64, bool)>
+    ensures { result ≡ rules.trim_under left.now request.now body.now }
+{
+    match body {
+        StreamBody::Trimmed { .. } => {
+            if !trim_awaits(&left.content.control, request) {
+                return None;
+            }
+            trim_out(&left.content.control)
+        }
+        _ => None,
+    }
+}
+
+/// The Trim with which the checkpoint of the left range ends, where the merge waits for that and this is the answer to it: below which
+/// index the log is trimmed, and whether its extents go to the blob stream.
+pub fn left_trim(
+    job: &MergeJob,
+    left: &RangeState,
+    request: &ReqNo,
+    body: &Body,
+) -> Option<(u64, bool)>
+    ensures { result ≡ rules.left_trim job.now.phase left.now request.now body.now }
+{
+    match job.phase {
+        MergePhase::Checkpoint {
+            side: MergeSide::Left,
+        } => match body {
+            Body::Stream(body) => trim_under(left, request, body),
+            _ => None,
+        },
+        _ => None,
     }
 }
 
@@ -93,28 +128,25 @@ fn right_taken(taken: RangeStep) -> MergeTaken
     }
 }
 
-/// The answer to the Trim of the left range's checkpoint, while the merge waits for that: it is over, as the range's own rule says, and
-/// the checkpoint of the right range begins, in the same event; where none can begin the merge ends, and both are served on. Where
-/// memory runs out (22) nothing has changed.
+/// The Trim of the left range's checkpoint is answered, while the merge waits for that (`left_trim`): the checkpoint is over, as the
+/// range's own rule says, and that of the right range begins, in the same event; where none can begin the merge ends, and both are
+/// served on. Where memory runs out (22) nothing has changed.
 pub fn left_trimmed(
     alloc: Global,
     context: &ServerContext,
     left: &mut RangeState,
     right: &mut RangeState,
     job: &mut MergeJob,
+    trim: (u64, bool),
 ) -> Result<MergeTaken, AllocError>
     requires numbers { context.now.count + 1024 < 2 ^ 64 }
-    requires phase { job.old.phase ≡ phases.Checkpoint sides.Left }
-    requires trimming { is_some (trim_out left.old.control) ≡ true }
-    ensures ok { IfOk result (λ t. rules.follows context.now (trimmed_by left.old (trim_out left.old.control)) right.old job.old sides.Left ≡ outcome t left.new right.new job.new) }
+    ensures ok { IfOk result (λ t. rules.left_ends context.now left.old right.old job.old trim ≡ outcome t left.new right.new job.new) }
     ensures left { OnErr result (left.new ≡ left.old) }
     ensures right { OnErr result (right.new ≡ right.old) }
     ensures kept { OnErr result (job.new ≡ job.old) }
     ensures short { IfOk result IsShort }
 {
-    let Some((before, to_blob)) = trim_out(&left.content.control) else {
-        unreachable!()
-    };
+    let (before, to_blob) = trim;
     let count = count_below(&left.content.log, before);
     let blob = blob_extents(alloc, &left.content, count, to_blob)?;
     if !may_checkpoint(right) {

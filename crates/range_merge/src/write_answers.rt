@@ -1,25 +1,24 @@
 //! Answers to the client that appends the records of the new range.
-ghost use Rattle.std.specs.Prelude.{◌≡◌, ◌∷◌, ◌<◌, ◌≤◌, ◌+◌, ◌^◌, [], None, Some, true, length, vec_len, vec_capacity, option_to_list, is_some, IfOk, OnErr};
+ghost use Rattle.std.specs.Prelude.{◌≡◌, ◌∷◌, ◌<◌, ◌+◌, ◌^◌, [], None, Some, true, vec_len, vec_capacity, option_to_list, is_some, IfOk, OnErr};
 ghost use Rattle.client.specs.Client.{ClientState};
 ghost use Rattle.metadata.specs.Record.{spelling};
-ghost use Rattle.model_partition.specs.Range.{RangeState as RangeStateOf, refused_users};
+ghost use Rattle.model_partition.specs.Range.{RangeState as RangeStateOf};
 ghost use Rattle.range_checkpoint.specs.Steps.{appended as stands_at};
-ghost use Rattle.range_merge.specs.declared.merge_job.MergeJob.{MergeJob as MergeJobState};
-ghost use Rattle.range_merge.specs.declared.merge_job.MergePhase.TheVariants as phases;
-ghost use Rattle.range_merge.specs.declared.merge_job.MergeRecord.{MergeRecord as Record};
-ghost use Rattle.range_merge.specs.declared.merge_job.MergeRecord.TheVariants as records;
-ghost use Rattle.range_merge.specs.Merges as rules;
-ghost use Rattle.range_merge.specs.Steps.{outcome, AreDrained, IsShort};
+ghost use Rattle.model_partition.specs.declared.merge_job.MergeJob.{MergeJob as MergeJobState};
+ghost use Rattle.model_partition.specs.declared.merge_job.MergePhase.TheVariants as phases;
+ghost use Rattle.model_partition.specs.declared.merge_job.MergeRecord.{MergeRecord as Record};
+ghost use Rattle.model_partition.specs.declared.merge_job.MergeRecord.TheVariants as records;
+ghost use Rattle.model_partition.specs.Merges as rules;
+ghost use Rattle.range_merge.specs.Steps.{outcome, IsShort};
 ghost use Rattle.range_merge.specs.WriteAnswers.{is_writing, other_told, record_stood};
 
 use crate::appends::send;
 use crate::departures::ends;
-use crate::merge_job::{MergeJob, MergePhase, MergeRecord};
 use crate::records::record_of;
 use crate::taken::{MergeTaken, push_some};
 use crate::writing::completes;
 use client::{Appending, News, Reaction, StreamClient};
-use model_partition::{ServerContext, take_answer};
+use model_partition::{MergeJob, MergePhase, MergeRecord, ServerContext, take_answer};
 use range_checkpoint::appended;
 use range_core::RangeState;
 use std::alloc::{AllocError, Global};
@@ -37,12 +36,12 @@ fn other_told(
 ) -> MergeTaken
     requires numbers { context.now.count + 1 < 2 ^ 64 }
     requires farewell { (job : MergeJobState) → rules.ends context.now left.now right.now ≡ outcome farewell left.now right.now job }
-    requires few { AreDrained left.now right.now → IsShort farewell }
+    requires few { IsShort farewell }
     requires room { (packets.items ≡ []) × (vec_len packets < vec_capacity packets) }
     ensures told { (job : MergeJobState) (what : Record) (after : ClientState)
         → other_told context.now left.now right.now job what after reaction.news (option_to_list reaction.packet)
         ≡ outcome result left.now right.now (rules.with_phase job (phases.Write what after)) }
-    ensures short { AreDrained left.now right.now → IsShort result }
+    ensures short { IsShort result }
 {
     let Reaction { packet, news } = reaction;
     match news {
@@ -69,7 +68,7 @@ fn write_told(
         → rules.write_reply context.now left.now right.now job what client.old packet.now.body
         ≡ outcome t left.now right.now (rules.with_phase job (phases.Write what client.new))) }
     ensures err { OnErr result (client.new ≡ client.old) }
-    ensures short { IfOk result (λ t. AreDrained left.now right.now → IsShort t) }
+    ensures short { IfOk result IsShort }
 {
     let farewell = ends(alloc, context, left, right)?;
     let packets = Vec::with_capacity(alloc, 1)?;
@@ -184,7 +183,7 @@ pub(crate) fn write_reply(
     requires writing { is_writing job.old.phase ≡ true }
     ensures ok { IfOk result (λ t. rules.merge_reply context.now left.now right.now job.old packet.now.body ≡ outcome t left.now right.now job.new) }
     ensures err { OnErr result (job.new ≡ job.old) }
-    ensures short { IfOk result (λ t. AreDrained left.now right.now → IsShort t) }
+    ensures short { IfOk result IsShort }
 {
     match record_stood(&job.phase, &packet.body) {
         Some(MergeRecord::Keys) => keys_stand(alloc, context, left, right, job, packet),

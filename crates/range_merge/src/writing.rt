@@ -3,16 +3,15 @@ ghost use Rattle.std.specs.Prelude.{◌≡◌, ◌∷◌, ◌<◌, ◌+◌, ◌^
 ghost use Rattle.metadata.specs.Record.{spelling};
 ghost use Rattle.client.specs.Client.{ClientState};
 ghost use Rattle.model_partition.specs.Range.{RangeState as RangeStateOf};
-ghost use Rattle.range_merge.specs.Merges as rules;
+ghost use Rattle.model_partition.specs.Merges as rules;
 ghost use Rattle.range_merge.specs.Steps.{goes_on, outcome, IsShort};
 
 use crate::appends::send;
-use crate::merge_job::{MergeJob, MergePhase, MergeRecord};
 use crate::packets::{complete_packet, create_packet, joined_generation, metadata_name};
 use crate::records::record_of;
 use crate::taken::{MergeTaken, push_some};
 use client::{Appending, StreamClient};
-use model_partition::{ServerContext, next_request};
+use model_partition::{MergeJob, MergePhase, MergeRecord, ServerContext, next_request};
 use range_core::RangeState;
 use std::alloc::{AllocError, Global};
 use wire::{Packet, StreamExtents, StreamList};

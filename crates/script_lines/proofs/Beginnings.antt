@@ -51,7 +51,7 @@ verb_for (lines.Happens (events.Renew range server until)) word words h = (verbs
 verb_for (lines.Happens (events.Moment now)) word words h = (verbs.Moment, h.0)
 verb_for (lines.Happens (events.Checkpoint server range combine)) word words h = (verbs.Checkpoint, h.0)
 verb_for (lines.Happens (events.Split server range key)) word words h = (verbs.Split, h.0)
-verb_for (lines.Happens (events.Merge server left right)) word words h = absurd h
+verb_for (lines.Happens (events.Merge server left right)) word words h = (verbs.Merge, h.0)
 
 -- a line begins with a verb
 pub no_verb : (word : List ℕ) (words : List (List ℕ)) → ((verb : Verb) → word ≡ verb_word verb → ⊥)

@@ -33,7 +33,7 @@ Asks (requests.Get server range key) =
     says (codes "get") then IsServer server then Denotes range then IsKey key then end
 Asks (requests.Route key) = says (codes "route") then IsKey key then end
 
--- an event of its own; no line submits or delivers so, and none has a server merge yet
+-- an event of its own; no line submits or delivers so
 abbrev pub SpellsEvent : Event → List (List ℕ) → Type 0
 SpellsEvent (events.Assign range server until) =
     says (codes "assign") then Denotes range then IsServer server then Denotes until then end
@@ -52,7 +52,8 @@ SpellsEvent (events.Checkpoint server range combine) =
     says (codes "checkpoint") then IsServer server then Denotes range then IsManner combine then end
 SpellsEvent (events.Split server range key) =
     says (codes "split") then IsServer server then Denotes range then IsKey key then end
-SpellsEvent (events.Merge server left right) = λ words. ⊥
+SpellsEvent (events.Merge server left right) =
+    says (codes "merge") then IsServer server then Denotes left then Denotes right then end
 
 -- the form of a line; the node that is shown is below 256
 abbrev pub HasForm : Line → List (List ℕ) → Type 0

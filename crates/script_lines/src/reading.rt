@@ -59,6 +59,7 @@ fn line_behind(alloc: Global, verb: Verb, words: &[&str]) -> Result<Option<Line>
         Verb::GiveUp => Ok(give_up(words)),
         Verb::Checkpoint => Ok(checkpoint(words)),
         Verb::Split => split(alloc, words),
+        Verb::Merge => Ok(merge(words)),
         Verb::Assign => Ok(assign(words)),
         Verb::Renew => Ok(renew(words)),
         Verb::Moment => Ok(moment(words)),
@@ -208,6 +209,18 @@ fn split(alloc: Global, words: &[&str]) -> Result<Option<Line>, AllocError>
         range: RangeId(range),
         key: key(alloc, name)?,
     })))
+}
+
+/// A merge of two ranges at a server: that of the lower keys comes first.
+fn merge(words: &[&str]) -> Option<Line>
+    ensures { Reads HasForm result (codes "merge" ∷ map (λ w. w.now) words.now) }
+{
+    let [by, left, right] = numbers::<3>(words)?;
+    Some(Line::Happens(Event::Merge {
+        server: server(by),
+        left: RangeId(left),
+        right: RangeId(right),
+    }))
 }
 
 fn assign(words: &[&str]) -> Option<Line>

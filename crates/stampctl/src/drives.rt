@@ -127,12 +127,16 @@ pub(crate) fn asked(body: TableBody) -> Event {
     }
 }
 
-pub(crate) fn transaction(changes: Changes, ticket: u64) -> Event {
+pub(crate) fn transaction_in(range: RangeId, changes: Changes, ticket: u64) -> Event {
     asked(TableBody::Transact {
-        range: RangeId(1),
+        range,
         changes,
         request: ReqNo::User { user: 1, ticket },
     })
+}
+
+pub(crate) fn transaction(changes: Changes, ticket: u64) -> Event {
+    transaction_in(RangeId(1), changes, ticket)
 }
 
 pub(crate) fn checkpoint_of() -> Event {

@@ -37,7 +37,8 @@
 //! words spell, exactly; `perform` answers the status; and what is printed is what `script_run::run_text` wrote into memory, which
 //! promises that it is what the lines of the text print, run in order over one run of `world`, and that the line which it names
 //! of a text that is no script is the first at which it is none. Of that run `world` promises
-//! that what is observed of extents agrees and keeps each acknowledged append, and that what is observed of tables replays.
+//! that what is observed of extents agrees and keeps each acknowledged append, and that what is observed of tables replays where
+//! no event splits or merges ranges.
 //! docs/PROOFS.md leads from here to each part.
 //!
 //! # Tests
@@ -59,6 +60,10 @@ mod checkpoint_scripts;
 #[cfg(test)]
 mod clients;
 #[cfg(test)]
+mod drill_loads;
+#[cfg(test)]
+mod drills;
+#[cfg(test)]
 mod drives;
 #[cfg(test)]
 mod failover;
@@ -67,9 +72,15 @@ mod many_values;
 #[cfg(test)]
 mod maps;
 #[cfg(test)]
+mod merge_scripts;
+#[cfg(test)]
 mod page_rows;
 #[cfg(test)]
 mod printed;
+#[cfg(test)]
+mod range_failover;
+#[cfg(test)]
+mod range_refusals;
 #[cfg(test)]
 mod requests;
 #[cfg(test)]
@@ -78,10 +89,6 @@ mod rows;
 mod runs;
 #[cfg(test)]
 mod scripts_run;
-#[cfg(test)]
-mod split_failover;
-#[cfg(test)]
-mod split_refusals;
 #[cfg(test)]
 mod split_scripts;
 #[cfg(test)]

@@ -177,7 +177,7 @@ fn filled(alloc: Global) -> Result<MemTable, Fail> {
     }
 }
 
-fn install(alloc: Global, indexes: &mut InstalledIndexes) -> Result<(), Fail> {
+pub(crate) fn install(alloc: Global, indexes: &mut InstalledIndexes) -> Result<(), Fail> {
     let index = InstalledIndex {
         place: place(),
         keys: KeyRange {

@@ -16,7 +16,11 @@ mod gets;
 #[cfg(test)]
 mod groups;
 #[cfg(test)]
+mod jobs;
+#[cfg(test)]
 mod loads;
+#[cfg(test)]
+mod merges;
 #[cfg(test)]
 mod ranges;
 #[cfg(test)]

@@ -268,13 +268,14 @@ fn transacted(
     changed(state, alloc, &context(9, moment), changes)
 }
 
-/// Why a change of one byte is refused, if it is; where its group is sent, under this number.
+/// Why a change of one byte at this key is refused, if it is; where its group is sent, under this number.
 pub(crate) fn put_once(
     state: &mut RangeState,
     alloc: Global,
     count: u32,
+    key: &'static [u8],
 ) -> Result<Option<Refusal>, Fail> {
-    let changes = puts(alloc, b"a", 1, 1)?;
+    let changes = puts(alloc, key, 1, 1)?;
     changed(state, alloc, &context(count, 1), changes)
 }
 

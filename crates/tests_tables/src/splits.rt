@@ -1,32 +1,17 @@
 //! Splits of a range, followed by hand from their beginning to the end of the range.
 ghost use Rattle.std.specs.Prelude.{◌≤◌, length};
 
-mod answers;
-
 use crate::asking::{answer_of, context, number};
 use crate::cases::{Case, Tested, holds};
+use crate::jobs::{Answer, Sends, body_of, sends_of};
 use crate::ranges::{begun, got, put_once, serves};
-use answers::{Answer, body_of};
 use bytes::Bytes;
 use model_partition::{ServerContext, SplitJob};
 use range_core::{Phase, RangeState};
 use range_split::{SplitRoom, SplitTaken, awaits, begin, follow, give_up, reply, split_fault};
 use std::alloc::Global;
 use std::test::Fail;
-use wire::{AppendBody, Body, MapBody, Packet, Refusal, SealBody, StreamBody, StreamExtent};
-
-/// What is sent first.
-#[derive(Clone, Copy, PartialEq, Eq)]
-pub(crate) enum Sends {
-    Nothing,
-    BeginSplit,
-    SealExtent,
-    MultiModify,
-    CompleteSplit,
-    Append,
-    Extend,
-    Other,
-}
+use wire::{Packet, Refusal, StreamExtent};
 
 /// What is done with a range or its split, or what is known of them.
 pub(crate) enum Step {
@@ -257,36 +242,6 @@ struct Splitting {
     job: Option<SplitJob>,
 }
 
-fn map_sends(body: &MapBody) -> Sends {
-    match body {
-        MapBody::BeginSplit { .. } => Sends::BeginSplit,
-        MapBody::CompleteSplit { .. } => Sends::CompleteSplit,
-        _ => Sends::Other,
-    }
-}
-
-fn stream_sends(body: &StreamBody) -> Sends {
-    match body {
-        StreamBody::MultiModify { .. } => Sends::MultiModify,
-        StreamBody::Extend { .. } => Sends::Extend,
-        _ => Sends::Other,
-    }
-}
-
-/// What the first packet is.
-fn sends_of(packets: &[Packet]) -> Sends {
-    match packets {
-        [] => Sends::Nothing,
-        [packet, ..] => match &packet.body {
-            Body::Map(body) => map_sends(body),
-            Body::Stream(body) => stream_sends(body),
-            Body::Seal(SealBody::SealExtent { .. }) => Sends::SealExtent,
-            Body::Append(AppendBody::Append { .. }) => Sends::Append,
-            _ => Sends::Other,
-        },
-    }
-}
-
 /// Why no split begins, if none does.
 fn split_begun(splitting: &mut Splitting, key: &'static [u8]) -> Result<Option<Refusal>, Fail> {
     let key = Bytes::from_static(key);
@@ -401,7 +356,7 @@ fn seal_last(extents: &mut Vec<StreamExtent>) {
     extents[count - 1] = last;
 }
 
-fn lasts_are_sealed(state: &mut RangeState) {
+pub(crate) fn lasts_are_sealed(state: &mut RangeState) {
     seal_last(&mut state.content.metadata.extents);
     seal_last(&mut state.content.rows.extents);
 }
@@ -440,7 +395,9 @@ impl Tested for Splitting {
             }
             Step::Awaits(asked) => Ok(split_awaits(self, *asked)),
             Step::GivesUp(count, first) => Ok(sends_again(self, alloc, *count)? == *first),
-            Step::Transacts(refusal) => { Ok(put_once(&mut self.state, alloc, 30)? == *refusal) }
+            Step::Transacts(refusal) => {
+                Ok(put_once(&mut self.state, alloc, 30, b"a")? == *refusal)
+            }
             Step::Gets(refusal) => Ok(got(&mut self.state, alloc, 1, b"a")? == *refusal),
             Step::LastsAreSealed => {
                 lasts_are_sealed(&mut self.state);

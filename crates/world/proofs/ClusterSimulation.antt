@@ -8,10 +8,10 @@ use Rattle.wire.specs.declared.body.Body.{Body}
 use Rattle.wire.specs.declared.note.Note.{Note}
 use Rattle.wire.specs.declared.packet.Packet.{Packet}
 use Rattle.model_streams.specs.declared.event.Event.{Event}
-use Rattle.model_streams.specs.declared.event.Event.TheVariants.{Submit, Deliver, Stop, Restart, Decide, GiveUp, Checkpoint, Split, Assign, Renew, Moment}
+use Rattle.model_streams.specs.declared.event.Event.TheVariants.{Submit, Deliver, Stop, Restart, Decide, GiveUp, Checkpoint, Split, Merge, Assign, Renew, Moment}
 use Rattle.model_streams.specs.StreamSystem.{StreamSystem, happens, delivered, delivered_if}
 use Rattle.model_streams.proofs.Tests.{if_elim}
-use Rattle.model_partition.specs.Servers.{ServerCell, ServersOutcome, told_moment, with_told, server_takes, server_gives_up, server_checkpoints, server_splits, server_stops, server_starts}
+use Rattle.model_partition.specs.Servers.{ServerCell, ServersOutcome, told_moment, with_told, server_takes, server_gives_up, server_checkpoints, server_splits, server_merges, server_stops, server_starts}
 use Rattle.model_partition.specs.Cluster.{Cluster, told_by_map, delivered_to, delivers, servers_perform, stops, restarts, assigns, renews, map_takes, map_stops, map_starts}
 use Rattle.world_map.specs.Seen.{MapSeen, MapSteps, MapSimulates, moment_shown}
 use Rattle.world_servers.specs.Servers.{ServersSeen, all_shown}
@@ -163,6 +163,12 @@ pub split_came : (x : ClusterState) (l : StreamLayerState) (servers : List Serve
 split_came x l servers s range key t = λ c m.
     subst (λ (cells : List ServerCell). ClusterMirrors (record x { stream_layer = l; servers = servers }) (servers_perform c (server_splits cells s range key))) m.servers
     (does_mirrors x l servers (server_splits x.servers s range key) t c m)
+
+pub merge_came : (x : ClusterState) (l : StreamLayerState) (servers : List ServerCell) (s left right : ℕ) → AfterServers x.stream_layer l servers (server_merges x.servers s left right) →
+    ClusterSimulates x (record x { stream_layer = l; servers = servers }) (Merge s left right)
+merge_came x l servers s left right t = λ c m.
+    subst (λ (cells : List ServerCell). ClusterMirrors (record x { stream_layer = l; servers = servers }) (servers_perform c (server_merges cells s left right))) m.servers
+    (does_mirrors x l servers (server_merges x.servers s left right) t c m)
 
 -- nothing is sent and shown
 rests : (x : ClusterState) (servers : List ServerCell) (o : ServersOutcome) → o ≡ record { servers = servers; packets = []; notes = [] } → AfterServers x.stream_layer x.stream_layer servers o

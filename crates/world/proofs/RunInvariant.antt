@@ -1,4 +1,4 @@
--- A run stays a run; what it shows agrees and is kept, and where no range is split it is honest.
+-- A run stays a run; what it shows agrees and is kept, and where no range is split or merged it is honest.
 use Rattle.std.proofs.Common.{◌≡◌, ◌<◌, ◌+◌, ℕ, suc, List, [], ◌∷◌, ◌++◌, Result, Ok, Err, OnOk, OnErr, refl, sym, ap, ◌∙◌, subst, take, length, slice_index_or, arith}
 use Rattle.std.proofs.Math.Seq.{take-suc}
 use Rattle.model_streams.specs.declared.event.Event.{Event}

@@ -5,9 +5,9 @@ use Rattle.wire.specs.declared.actor.ActorId.TheVariants.{Node, Manager, Map, Se
 use Rattle.wire.specs.declared.packet.Packet.{Packet}
 use Rattle.wire.specs.declared.refusal.Refusal.{Refusal}
 use Rattle.model_streams.specs.declared.event.Event.{Event}
-use Rattle.model_streams.specs.declared.event.Event.TheVariants.{Decide, GiveUp, Checkpoint, Split, Assign, Renew}
+use Rattle.model_streams.specs.declared.event.Event.TheVariants.{Decide, GiveUp, Checkpoint, Split, Merge, Assign, Renew}
 use Rattle.model_streams.specs.Maps.{entry_at}
-use Rattle.model_partition.specs.Servers.{ServerCell, checkpoint_refusal_at, give_up_refusal, split_refusal_at}
+use Rattle.model_partition.specs.Servers.{ServerCell, checkpoint_refusal_at, give_up_refusal, merge_refusal_at, split_refusal_at}
 use Rattle.model_partition.specs.Cluster.{AreUnsplit, Cluster, cluster_after, cluster_after_all, first_cluster}
 use Rattle.world_map.specs.Seen.{MapSeen, MapMirrors, assign_refusal, renew_refusal}
 use Rattle.world_manager.specs.Seen.{decision_refusal}
@@ -46,7 +46,7 @@ pub record IsRun (x : ClusterState) : Type 0 where
   pub events : List Event
   pub led : ReachedBy events (first_cluster nodes servers target batch) x
 
--- some events by which no range is split made this, from the start of some setup
+-- some events by which no range is split or merged made this, from the start of some setup
 pub record IsUnsplitRun (x : ClusterState) : Type 0 where
   pub nodes : ℕ
   pub servers : ℕ
@@ -75,6 +75,7 @@ refusal_of x (Decide e) = decision_refusal x.stream_layer.manager e
 refusal_of x (GiveUp server range pick) = give_up_refusal range pick (entry_at x.servers server)
 refusal_of x (Checkpoint server range combine) = checkpoint_refusal_at range (entry_at x.servers server)
 refusal_of x (Split server range key) = split_refusal_at range key (entry_at x.servers server)
+refusal_of x (Merge server left right) = merge_refusal_at left right (entry_at x.servers server)
 refusal_of x (Assign range server until) = assign_refusal x.map x.moment range server
 refusal_of x (Renew range server until) = renew_refusal x.map range server
 refusal_of x event = None

@@ -2,7 +2,7 @@
 ghost use Rattle.std.specs.Prelude.{◌≡◌, [], None, Some, IfOk, IfSome, OnOk, OnErr, option_map, slice_get};
 ghost use Rattle.model_streams.specs.declared.event.Event.TheVariants as events;
 ghost use Rattle.model_streams.specs.Maps.{entry_at};
-ghost use Rattle.model_partition.specs.Servers.{checkpoint_refusal_at, give_up_refusal, split_refusal_at};
+ghost use Rattle.model_partition.specs.Servers.{checkpoint_refusal_at, give_up_refusal, merge_refusal_at, split_refusal_at};
 ghost use Rattle.model_partition.specs.Cluster.{first_cluster};
 ghost use Rattle.world_manager.specs.Seen.{decision_refusal};
 ghost use Rattle.world_nodes.specs.Seen.{seen_of};
@@ -251,6 +251,21 @@ impl Cluster {
             .split(alloc, &mut self.servers, server, range, key)
     }
 
+    fn merge(
+        &mut self,
+        alloc: Global,
+        server: ServerNo,
+        left: RangeId,
+        right: RangeId,
+    ) -> Result<Option<Refusal>, WorldFault>
+        ensures refusal { IfOk result (λ refusal. refusal ≡ merge_refusal_at left right (entry_at self.old.servers server)) }
+        ensures ok { OnOk result (ClusterSimulates self.old self.new (events.Merge server left right)) }
+        ensures err { OnErr result (self.new ≡ self.old) }
+    {
+        self.stream_layer
+            .merge(alloc, &mut self.servers, server, left, right)
+    }
+
     fn assign(
         &mut self,
         alloc: Global,
@@ -289,8 +304,8 @@ impl Cluster {
     }
 
     /// The next event. It answers why an event is refused: a decision 1 or 10, giving up and a renewal 30, a checkpoint 30, 38, 34
-    /// or 35, a split 30, 38, 34, 35 or 39, and an assignment 30 or 31; nothing else is. An error is out of memory (22), and
-    /// nothing has changed.
+    /// or 35, a split 30, 38, 34, 35 or 39, a merge 30, 38, 34, 35, 40 or 37, and an assignment 30 or 31; nothing else is. An
+    /// error is out of memory (22), and nothing has changed.
     pub(crate) fn step(
         &mut self,
         alloc: Global,
@@ -337,7 +352,11 @@ impl Cluster {
                 combine,
             } => self.checkpoint(alloc, *server, *range, *combine),
             Event::Split { server, range, key } => self.split(alloc, *server, *range, key),
-            Event::Merge { .. } => Ok(None),
+            Event::Merge {
+                server,
+                left,
+                right,
+            } => self.merge(alloc, *server, *left, *right),
         }
     }
 

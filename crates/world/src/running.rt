@@ -19,7 +19,7 @@ use world_streams::{Setup, WorldFault};
 
 /// A cluster that events made. At each moment it is what the model makes of some list of events, from the start of some
 /// setup. So what was observed of extents agrees and is kept, at any moment and of any run; and what was observed of tables
-/// replays, at any moment of any run in which no range is split.
+/// replays, at any moment of any run in which no range is split or merged.
 pub struct Run {
     cluster: Cluster,
 }
@@ -56,9 +56,11 @@ impl Run {
     /// One event more. It answers the number of the refusal where the event is refused: a decision, where there is no such
     /// extent (1) or no place has answered with its length (10); giving up and a renewal, where the server does not hold the
     /// range (30); a checkpoint, where the server does not hold the range (30), the range is not served yet (38) or is paused (34),
-    /// or a checkpoint or a split of it is under way (35); a split for the same (30, 38, 34, 35), and where the key does not split
-    /// the keys of the range (39); an assignment, of an unknown range (30) or while another server holds it (31). Nothing has
-    /// changed then. An error is out of memory (22), and nothing has changed then either.
+    /// or a checkpoint, a split or a merge of it is under way (35); a split for the same (30, 38, 34, 35), and where the key does
+    /// not split the keys of the range (39); a merge for the same of either range (30, 38, 34, 35), where the left one does not end
+    /// where the right one begins (40), and where they have too many indexes together (37); an assignment, of an unknown range (30)
+    /// or while another server holds it (31). Nothing has changed then. An error is out of memory (22), and nothing has changed
+    /// then either.
     pub fn step(&mut self, alloc: Global, event: &Event) -> Result<Option<u8>, WorldFault>
         ensures ok { OnOk result (ClusterSimulates self.old self.new event.now) }
         ensures err { OnErr result (self.new ≡ self.old) }
@@ -78,10 +80,10 @@ impl Run {
         self.cluster.sent()
     }
 
-    /// All that was observed, in order. Whatever was asked, lost, repeated, reordered or split: all that is shown of an extent
-    /// agrees, and every acknowledged append stands in it at its answered offset. Where no event split a range, what was
-    /// observed of tables replays too: each table that a load shows is that of a line of transactions that has every one that was
-    /// acknowledged under an earlier generation, in order, each once.
+    /// All that was observed, in order. Whatever was asked, lost, repeated, reordered, split or merged: all that is shown of an
+    /// extent agrees, and every acknowledged append stands in it at its answered offset. Where no event split or merged ranges,
+    /// what was observed of tables replays too: each table that a load shows is that of a line of transactions that has every one
+    /// that was acknowledged under an earlier generation, in order, each once.
     pub fn observations(&self) -> &[Note]
         ensures notes { result.now ≡ self.now.stream_layer.notes }
         ensures agree { Agree result.now }

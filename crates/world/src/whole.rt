@@ -12,10 +12,10 @@ use std::alloc::Global;
 use world_streams::{Setup, WorldFault};
 
 /// The run of these events, from the start of a setup. An error is out of memory (22). It is what the events make of the
-/// model's cluster, and nothing else. Whatever was delivered, again and in any order, and whatever was split, all that is shown of
-/// an extent agrees, and every acknowledged append stands in it at its answered offset. Where no event splits a range, what is
-/// observed of tables replays too: each table that is loaded is that of a line of transactions that has every one that was
-/// acknowledged under an earlier generation, in order, each once.
+/// model's cluster, and nothing else. Whatever was delivered, again and in any order, and whatever was split or merged, all that is
+/// shown of an extent agrees, and every acknowledged append stands in it at its answered offset. Where no event splits or merges
+/// ranges, what is observed of tables replays too: each table that is loaded is that of a line of transactions that has every one
+/// that was acknowledged under an earlier generation, in order, each once.
 pub fn run(alloc: Global, setup: &Setup, events: &[Event]) -> Result<Finished, WorldFault>
     ensures led { IfOk result (λ r. ReachedBy events.now (first_cluster setup.now.nodes setup.now.servers setup.now.target setup.now.batch) r) }
     // what it shows is what the events make of the model's cluster

@@ -1,6 +1,6 @@
 //! One server, over its starts and stops.
 ghost use Rattle.std.specs.Prelude.{◌≡◌, [], None, option_map, IfOk, OnErr};
-ghost use Rattle.model_partition.specs.Servers.{cell_checkpoints, cell_gives_up, cell_splits, cell_stops, cell_starts, cell_takes, checkpoint_fault_of, give_up_fault, cell_loads, split_fault_of, table_of_view};
+ghost use Rattle.model_partition.specs.Servers.{cell_checkpoints, cell_gives_up, cell_merges, cell_splits, cell_stops, cell_starts, cell_takes, checkpoint_fault_of, give_up_fault, cell_loads, merge_fault_of, split_fault_of, table_of_view};
 ghost use Rattle.world_server.specs.Seen.{cell_outcome, moment_shown, new_server};
 ghost use Rattle.world_steps.specs.ActorStep.{IsFew, table_step};
 
@@ -128,8 +128,8 @@ impl ServerActor {
     }
 
     /// Has it begin a checkpoint of a range, which combines the range's indexes where that is asked. It answers why it does not:
-    /// it does not hold the range (30), the range is not served yet (38) or is paused (34), or a checkpoint or a split of it is
-    /// under way (35). Nothing comes of it where it has stopped. An error is out of memory (22), and nothing has changed.
+    /// it does not hold the range (30), the range is not served yet (38) or is paused (34), or a checkpoint, a split or a merge of
+    /// it is under way (35). Nothing comes of it where it has stopped. An error is out of memory (22), and nothing has changed.
     pub fn checkpoint(
         &mut self,
         alloc: Global,
@@ -156,8 +156,8 @@ impl ServerActor {
     }
 
     /// Has it begin a split of a range at a key. It answers why it does not: it does not hold the range (30), the range is not
-    /// served yet (38) or is paused (34), a checkpoint or a split of it is under way (35), or the key does not split its keys (39).
-    /// Nothing comes of it where it has stopped. An error is out of memory (22), and nothing has changed.
+    /// served yet (38) or is paused (34), a checkpoint, a split or a merge of it is under way (35), or the key does not split its
+    /// keys (39). Nothing comes of it where it has stopped. An error is out of memory (22), and nothing has changed.
     pub fn split(
         &mut self,
         alloc: Global,
@@ -178,6 +178,35 @@ impl ServerActor {
                 Err(fault) => match fault.refusal() {
                     None => Err(AllocError),
                     Some(reason) => Ok(ActorStep::refused(alloc, reason)),
+                },
+            },
+        }
+    }
+
+    /// Has it begin a merge of two ranges. It answers why it does not: it does not hold both (30), one is not served yet (38) or is
+    /// paused (34), a checkpoint, a split or a merge of one is under way (35), the left one does not end where the right one begins
+    /// (40), or they have too many indexes together (37). Nothing comes of it where it has stopped. An error is out of memory (22),
+    /// and nothing has changed.
+    pub fn merge(
+        &mut self,
+        alloc: Global,
+        left: RangeId,
+        right: RangeId,
+    ) -> Result<ActorStep, AllocError>
+        ensures ok { IfOk result (λ step. cell_merges self.old.cell left right self.old.cell.state ≡ cell_outcome self.new.cell step) }
+        ensures same { self.new ≡ record self.old { cell = self.new.cell } }
+        ensures plain { IfOk result (λ step. step.notes ≡ []) }
+        ensures refusal { IfOk result (λ step. step.refusal ≡ merge_fault_of left right self.old.cell.state) }
+        ensures err { OnErr result (self.new ≡ self.old) }
+        ensures few { IfOk result IsFew }
+    {
+        match &mut self.server {
+            None => Ok(ActorStep::silent(alloc)),
+            Some(server) => match server.merge(alloc, left, right) {
+                Ok(sent) => Ok(performed(alloc, sent)),
+                Err(fault) => match fault.refusal() {
+                    None => Err(AllocError),
+                    Some(cause) => Ok(ActorStep::refused(alloc, cause)),
                 },
             },
         }

@@ -3,8 +3,8 @@
 //! This crate touches memory only. `Servers` is the list of the servers as model_partition/specs/Servers has it, and each call is
 //! a row of it exactly:
 //! - `start`: so many servers that run; `stop` and `restart`: what a server holds goes, and it comes back under another number.
-//! - `give`, `give_up`, `checkpoint` and `split`: what one server does; nothing where there is none of the number, or where it
-//!   has stopped.
+//! - `give`, `give_up`, `checkpoint`, `split` and `merge`: what one server does; nothing where there is none of the number, or
+//!   where it has stopped.
 //! - `loading`: the table that an answer to a server is about to show.
 //! - `moment`: the clock of leases, which all see.
 //! - `rows_of`: the rows of a table, which is its memory table over the pages of its indexes, the oldest index first. Each page,

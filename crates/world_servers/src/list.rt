@@ -1,7 +1,7 @@
 //! The servers of a run.
 ghost use Rattle.std.specs.Prelude.{◌≡◌, ◌<◌, ℕ, suc, [], None, length, map, option_map, IfOk, OnErr, IfSome, IfNone};
 ghost use Rattle.model_streams.specs.Maps.{entry_at};
-ghost use Rattle.model_partition.specs.Servers.{checkpoint_refusal_at, first_servers, give_up_refusal, server_checkpoints, server_gives_up, server_loads, server_splits, server_stops, server_starts, server_takes, split_refusal_at, table_of_view};
+ghost use Rattle.model_partition.specs.Servers.{checkpoint_refusal_at, first_servers, give_up_refusal, merge_refusal_at, server_checkpoints, server_gives_up, server_loads, server_merges, server_splits, server_stops, server_starts, server_takes, split_refusal_at, table_of_view};
 ghost use Rattle.world_server.specs.Seen.{moment_shown};
 ghost use Rattle.world_steps.specs.ActorStep.{IsFew};
 ghost use Rattle.world_servers.specs.Servers.{AreServers, StayServers, all_shown, cells_of, new_servers, outcome};
@@ -157,6 +157,28 @@ fn split_at(
     }
 }
 
+#[tactic(auto, using(crate::proofs::ServerList::one_stepped, crate::proofs::ServerList::one_stays, crate::proofs::ServerList::set_same))]
+fn merge_at(
+    actors: &mut Vec<ServerActor>,
+    at: usize,
+    alloc: Global,
+    left: RangeId,
+    right: RangeId,
+) -> Result<ActorStep, AllocError>
+    requires { at < length actors.old.items }
+    ensures ok { IfOk result (λ step. server_merges (cells_of actors.old.items) (suc at) left right ≡ outcome (cells_of actors.new.items) step) }
+    ensures stay { StayServers actors.old.items actors.new.items }
+    ensures plain { IfOk result (λ step. step.notes ≡ []) }
+    ensures refusal { IfOk result (λ step. step.refusal ≡ merge_refusal_at left right (entry_at (cells_of actors.old.items) (suc at))) }
+    ensures err { OnErr result (actors.new.items ≡ actors.old.items) }
+    ensures few { IfOk result IsFew }
+{
+    match actors[at].merge(alloc, left, right) {
+        Ok(step) => Ok(step),
+        Err(full) => Err(full),
+    }
+}
+
 #[tactic(auto, using(crate::proofs::ServerList::one_stopped, crate::proofs::ServerList::one_stays))]
 fn stop_at(actors: &mut Vec<ServerActor>, at: usize, call: u64)
     requires { at < length actors.old.items }
@@ -295,6 +317,28 @@ impl Servers {
         match place(self.actors.as_slice(), server) {
             None => Ok(ActorStep::silent(alloc)),
             Some(at) => split_at(&mut self.actors, at, alloc, range, key),
+        }
+    }
+
+    /// Has the server of a number begin a merge of two ranges. It answers why it does not (30, 38, 34, 35, 40, 37). Nothing comes of
+    /// it where the server is absent or has stopped. An error is out of memory (22), and nothing has changed.
+    pub fn merge(
+        &mut self,
+        alloc: Global,
+        server: ServerNo,
+        left: RangeId,
+        right: RangeId,
+    ) -> Result<ActorStep, AllocError>
+        ensures ok { IfOk result (λ step. server_merges self.old.cells server left right ≡ outcome self.new.cells step) }
+        ensures same { (self.new.moment ≡ self.old.moment) × (self.new.batch ≡ self.old.batch) }
+        ensures plain { IfOk result (λ step. step.notes ≡ []) }
+        ensures refusal { IfOk result (λ step. step.refusal ≡ merge_refusal_at left right (entry_at self.old.cells server)) }
+        ensures err { OnErr result (self.new ≡ self.old) }
+        ensures few { IfOk result IsFew }
+    {
+        match place(self.actors.as_slice(), server) {
+            None => Ok(ActorStep::silent(alloc)),
+            Some(at) => merge_at(&mut self.actors, at, alloc, left, right),
         }
     }
 

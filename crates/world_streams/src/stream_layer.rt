@@ -7,7 +7,7 @@ ghost use Rattle.model_streams.specs.StreamSystem.{StreamSystem, happens, moved,
 ghost use Rattle.model_streams.specs.StreamSystem.Move.{Asks};
 ghost use Rattle.model_streams.specs.declared.event.Event.TheVariants as events;
 ghost use Rattle.model_streams.specs.Outcome.{packet};
-ghost use Rattle.model_partition.specs.Servers.{checkpoint_refusal_at, give_up_refusal, server_checkpoints, server_gives_up, server_splits, server_takes, split_refusal_at};
+ghost use Rattle.model_partition.specs.Servers.{checkpoint_refusal_at, give_up_refusal, merge_refusal_at, server_checkpoints, server_gives_up, server_merges, server_splits, server_takes, split_refusal_at};
 ghost use Rattle.world_steps.specs.ActorStep.{IsFew, nothing};
 ghost use Rattle.world_nodes.specs.Seen.{seen_of};
 ghost use Rattle.world_manager.specs.Seen.{ManagerMirrors, ManagerSimulates, decision_refusal};
@@ -451,8 +451,8 @@ impl StreamLayer {
     }
 
     /// A server begins a checkpoint of a range, which combines the range's indexes where that is asked. It answers why it does not:
-    /// it does not hold the range (30), the range is not served yet (38) or is paused (34), or a checkpoint or a split of it is
-    /// under way (35). An error is out of memory (22), and nothing has changed.
+    /// it does not hold the range (30), the range is not served yet (38) or is paused (34), or a checkpoint, a split or a merge of
+    /// it is under way (35). An error is out of memory (22), and nothing has changed.
     pub fn checkpoint(
         &mut self,
         alloc: Global,
@@ -493,8 +493,8 @@ impl StreamLayer {
     }
 
     /// A server begins a split of a range at a key. It answers why it does not: it does not hold the range (30), the range is not
-    /// served yet (38) or is paused (34), a checkpoint or a split of it is under way (35), or the key does not split its keys (39).
-    /// An error is out of memory (22), and nothing has changed.
+    /// served yet (38) or is paused (34), a checkpoint, a split or a merge of it is under way (35), or the key does not split its
+    /// keys (39). An error is out of memory (22), and nothing has changed.
     pub fn split(
         &mut self,
         alloc: Global,
@@ -520,6 +520,48 @@ impl StreamLayer {
                     ..
                 } = step;
                 move_in(&mut self.post, begun.into_vec());
+                show(
+                    alloc,
+                    &mut self.notes,
+                    told,
+                    Rows {
+                        items: Vec::new(alloc),
+                    },
+                );
+                Ok(refusal)
+            }
+            Err(_full) => Err(WorldFault::Memory),
+        }
+    }
+
+    /// A server begins a merge of two ranges. It answers why it does not: it does not hold both (30), one is not served yet (38) or
+    /// is paused (34), a checkpoint, a split or a merge of one is under way (35), the left one does not end where the right one
+    /// begins (40), or they have too many indexes together (37). An error is out of memory (22), and nothing has changed.
+    pub fn merge(
+        &mut self,
+        alloc: Global,
+        servers: &mut Servers,
+        server: ServerNo,
+        left: RangeId,
+        right: RangeId,
+    ) -> Result<Option<Refusal>, WorldFault>
+        ensures ok { OnOk result (AfterServers self.old self.new servers.new.cells (server_merges servers.old.cells server left right)) }
+        ensures refusal { IfOk result (λ refusal. refusal ≡ merge_refusal_at left right (entry_at servers.old.cells server)) }
+        ensures err { OnErr result (self.new ≡ self.old) }
+        ensures servers_err { OnErr result (servers.new ≡ servers.old) }
+        ensures servers_same { (servers.new.moment ≡ servers.old.moment) × (servers.new.batch ≡ servers.old.batch) }
+    {
+        make_room(&mut self.post)?;
+        self.notes.make_room()?;
+        match servers.merge(alloc, server, left, right) {
+            Ok(step) => {
+                let ActorStep {
+                    packets: joined,
+                    tables: told,
+                    refusal,
+                    ..
+                } = step;
+                move_in(&mut self.post, joined.into_vec());
                 show(
                     alloc,
                     &mut self.notes,

@@ -1,6 +1,6 @@
-use Rattle.model_partition.specs.Servers.{server_takes, server_gives_up, server_checkpoints, server_splits}
+use Rattle.model_partition.specs.Servers.{server_takes, server_gives_up, server_checkpoints, server_splits, server_merges}
 use Rattle.laws_servers.proofs.ClientPackets.{may_send_all}
-use Rattle.laws_servers.proofs.ServerSteps.{server_takes_shows, server_gives_up_tidy, server_checkpoints_tidy, server_splits_tidy}
+use Rattle.laws_servers.proofs.ServerSteps.{server_takes_shows, server_gives_up_tidy, server_checkpoints_tidy, server_splits_tidy, server_merges_tidy}
 use Rattle.laws.proofs.clusters.servers_take_steps.Goals as goal
 
 pub returns-clause-sent : goal.returns-clause-sent
@@ -26,3 +26,9 @@ returns-clause-sent_by_splits c = λ servers s range key. may_send_all (server_s
 
 pub returns-clause-shown_of_splits : goal.returns-clause-shown_of_splits
 returns-clause-shown_of_splits c = λ servers s range key. (server_splits_tidy servers s range key).1
+
+pub returns-clause-sent_by_merges : goal.returns-clause-sent_by_merges
+returns-clause-sent_by_merges c = λ servers s left right. may_send_all (server_merges servers s left right).packets (server_merges_tidy servers s left right).0
+
+pub returns-clause-shown_of_merges : goal.returns-clause-shown_of_merges
+returns-clause-shown_of_merges c = λ servers s left right. (server_merges_tidy servers s left right).1

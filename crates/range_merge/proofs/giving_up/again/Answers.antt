@@ -1,6 +1,6 @@
 use Rattle.std.proofs.Common.{◌∙◌, sym}
 use Rattle.std.specs.Prelude.{if◌then◌else◌}
-use Rattle.range_merge.specs.Merges.{gives_up_in, stays}
+use Rattle.model_partition.specs.Merges.{gives_up_in, stays}
 use Rattle.range_merge.proofs.giving_up.again.Goals as goal
 
 pub returns-then-is_writing : goal.returns-then-is_writing

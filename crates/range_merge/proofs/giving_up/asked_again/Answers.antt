@@ -1,9 +1,8 @@
-use Rattle.std.proofs.Common.{◌≡◌, ◌∷◌, [], List, Some, sym, ap, ◌∙◌}
+use Rattle.std.proofs.Common.{◌≡◌, ◌∷◌, [], Some, sym, ap, ◌∙◌}
 use Rattle.wire.specs.declared.packet.Packet.{Packet}
-use Rattle.wire.specs.declared.streams.Modify.{Modify}
-use Rattle.range_merge.specs.declared.merge_job.MergePhase.{MergePhase}
+use Rattle.model_partition.specs.declared.merge_job.MergePhase.{MergePhase}
 use Rattle.range_merge.specs.declared.next_packet.NextPacket.{NextPacket}
-use Rattle.range_merge.specs.Merges.{all_streams, gives_up_in, goes}
+use Rattle.model_partition.specs.Merges.{all_streams, gives_up_in, goes}
 use Rattle.range_merge.specs.Rooms.{again_room_of}
 use Rattle.range_merge.specs.Steps.{goes_on}
 use Rattle.range_merge.proofs.RecordAppends.{counted, some_of}

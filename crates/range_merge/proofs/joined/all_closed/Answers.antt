@@ -1,5 +1,4 @@
-use Rattle.std.proofs.Common.{sym}
-use Rattle.range_merge.specs.JoinedRanges.{closed_region, is_record_region}
+use Rattle.model_partition.specs.JoinedRanges.{closed_region, is_record_region}
 use Rattle.range_merge.proofs.RecordSizes.{if_none, one_has_none}
 use Rattle.range_merge.proofs.joined.all_closed.Goals as goal
 

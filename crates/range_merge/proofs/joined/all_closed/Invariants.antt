@@ -1,5 +1,5 @@
 use Rattle.std.proofs.Common.{◌≡◌, take, map}
-use Rattle.range_merge.specs.JoinedRanges.{closed_region}
+use Rattle.model_partition.specs.JoinedRanges.{closed_region}
 use Rattle.range_merge.proofs.joined.all_closed.Given as goal
 
 abbrev pub invariant-loop-one : goal.invariant-loop-one

@@ -1,5 +1,5 @@
 use Rattle.std.proofs.Common.{◌≡◌, take, map}
-use Rattle.range_merge.specs.JoinedRanges.{cut_index}
+use Rattle.model_partition.specs.JoinedRanges.{cut_index}
 use Rattle.range_merge.proofs.joined.all_cut.Given as goal
 
 abbrev pub invariant-loop-one : goal.invariant-loop-one

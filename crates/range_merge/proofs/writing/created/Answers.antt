@@ -2,8 +2,8 @@ use Rattle.std.proofs.Common.{◌≡◌, ℕ, ◌∙◌, ◌+◌, ◌++◌, ◌�
 use Rattle.std.specs.Prelude.{option_to_list, if◌then◌else◌}
 use Rattle.metadata.specs.Record.{spelling}
 use Rattle.wire.specs.declared.packet.Packet.{Packet}
-use Rattle.range_merge.specs.declared.merge_job.MergeRecord.TheVariants.{Keys}
-use Rattle.range_merge.specs.Merges.{appends_record, may_write, new_metadata, record_of, stays}
+use Rattle.model_partition.specs.declared.merge_job.MergeRecord.TheVariants.{Keys}
+use Rattle.model_partition.specs.Merges.{appends_record, may_write, new_metadata, record_of, stays}
 use Rattle.range_merge.proofs.RecordAppends.{if_some, sent_some}
 use Rattle.range_merge.proofs.writing.created.Goals as goal
 

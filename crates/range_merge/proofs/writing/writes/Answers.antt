@@ -1,7 +1,7 @@
 use Rattle.std.proofs.Common.{◌∙◌, sym, ap}
 use Rattle.client.specs.Client.{ClientState}
-use Rattle.range_merge.specs.declared.merge_job.MergePhase.TheVariants as phases
-use Rattle.range_merge.specs.Merges.{appends_record, with_phase}
+use Rattle.model_partition.specs.declared.merge_job.MergePhase.TheVariants as phases
+use Rattle.model_partition.specs.Merges.{appends_record, with_phase}
 use Rattle.range_merge.proofs.RecordAppends.{appends_so, counted}
 use Rattle.range_merge.proofs.writing.writes.Goals as goal
 
