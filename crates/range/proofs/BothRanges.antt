@@ -2,7 +2,7 @@
 use Rattle.std.proofs.Common.{◌≡◌, ℕ, Bool, true, false, List, Option, Some, None, refl, ap, sym, ◌∙◌, ◌==◌}
 use Rattle.std.specs.Prelude.{is_some, if◌then◌else◌}
 use Rattle.std.specs.BTreeMap.{is_at}
-use Rattle.std.specs.Map.{lookup, set_value}
+use Rattle.std.specs.Map.{set_value}
 use Rattle.std.specs.Ordering.{nat_cmp}
 use Rattle.model_partition.specs.declared.merge_job.MergeJob.{MergeJob}
 use Rattle.model_partition.specs.Merges.{MergeStep, pausing}
@@ -11,7 +11,7 @@ use Rattle.model_partition.specs.Server.{ServerState, TwoRanges, both_of, pair_o
 use Rattle.range_core.specs.Steps.{unless}
 use Rattle.range_merge.specs.Steps.{MergeTaken, outcome, paused_if}
 use Rattle.range.specs.ServerStep.{IsMergeStep, both_set, ranges_left, without}
-use Rattle.range.proofs.Entries.{found_again, found_apart, keys_apart, removed_after, removed_apart, set_again, set_same, set_swapped}
+use Rattle.range.proofs.Entries.{found_apart, keys_apart, removed_after, removed_apart, set_again, set_same, set_swapped}
 use Rattle.range.proofs.Settled.{with_range}
 
 -- ---- which two

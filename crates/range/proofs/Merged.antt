@@ -1,6 +1,6 @@
 -- Steps of ranges of a merge, which goes on or ends behind them.
 use Rattle.std.proofs.Common.{◌≡◌, ℕ, Bool, true, false, List, [], Option, Some, None, refl, ap, sym, ◌∙◌, ◌==◌}
-use Rattle.std.specs.Prelude.{is_some, if◌then◌else◌, ◌++◌}
+use Rattle.std.specs.Prelude.{is_some, if◌then◌else◌}
 use Rattle.std.specs.BTreeMap.{is_at}
 use Rattle.std.specs.List.Sorted.{IsStrictlySortedBy}
 use Rattle.std.specs.Map.{keys_of, set_value}
@@ -18,7 +18,7 @@ use Rattle.model_partition.specs.declared.table_note.TableNote.{TableNote}
 use Rattle.model_partition.specs.Answering.{answer_rule}
 use Rattle.model_partition.specs.Merges.{MergeStep, follows, follows_in, gives_up, left_ends, merge_reply, stays}
 use Rattle.model_partition.specs.Range.{RangeState, RangeOutcome}
-use Rattle.model_partition.specs.Server.{ServerState, ServerOutcome, TwoRanges, answer_at, answer_ending, answer_in, answer_of, answered_both, assigned_merging, awaiting, behind_these, both_of, follows_both, give_up_both, given_up, given_up_merging, left_ended, merge_answer_in, merge_follows, merge_gives_up, merge_of, merge_stepped, merge_with, merged_behind, pair_of, range_of, rests, set_merge, set_range, side_of_range, split_of, stepped, stepped_in, stepped_merging}
+use Rattle.model_partition.specs.Server.{ServerState, ServerOutcome, TwoRanges, answer_at, answer_ending, answer_in, answer_of, answered_both, assigned_merging, awaiting, both_of, follows_both, give_up_both, given_up, given_up_merging, left_ended, merge_answer_in, merge_follows, merge_gives_up, merge_of, merge_stepped, merge_with, merged_behind, range_of, rests, set_merge, set_range, side_of_range, split_of, stepped, stepped_in, stepped_merging}
 use Rattle.model_partition.specs.Splits.{has_number}
 use Rattle.range_core.specs.Steps.{RangeStep, unless}
 use Rattle.range_core.specs.Steps.{outcome as step_of}

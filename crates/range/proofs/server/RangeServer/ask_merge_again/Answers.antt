@@ -1,4 +1,4 @@
-use Rattle.std.proofs.Common.{rules, ◌≡◌, ap, sym, ◌∙◌}
+use Rattle.std.proofs.Common.{rules, ap, sym, ◌∙◌}
 use Rattle.model_partition.specs.Server.{range_of}
 use Rattle.range_merge.specs.Steps.{MergeTaken}
 use Rattle.range.proofs.BothRanges.{both_alike, left_absent, right_absent}
