@@ -115,7 +115,7 @@ module _ (texts : ℕ → Bytes) where
   -- say, and it has the position and the next number that were noted.
   pub may_checkpoint : (b : Beginning) (s : Serving) (r : RangeState) (job : CheckpointState) (fixed : Entries) (index : Place) →
       r.said ≡ said b s.records → AreInstalled texts r.indexes r.said.indexes → AreWritten texts r.said.indexes → AreEntries fixed →
-      IsWritten texts job.pages.index (written_entries texts job.combine r.said.keys r.indexes fixed) index → ((key : Bytes) → layer_in texts fixed key ≡ s.fixed key) →
+      IsWritten texts job.pages.index (written_entries texts job.combine r.said.keys r.indexes fixed) index → ((key : Bytes) → within r.said.keys key ≡ true → layer_in texts fixed key ≡ s.fixed key) →
       s.noted ≡ Some (record { place = place_number job.position; next = job.next }) →
       MayCheckpoint (layer_at texts) b s (checkpoint_record r job index).item
   may_checkpoint b s r job fixed index said_is installed written are stands layer noted = (
@@ -130,13 +130,13 @@ module _ (texts : ℕ → Bytes) where
   )
     where
       by : (combine : Bool) → IsWritten texts job.pages.index (written_entries texts combine r.said.keys r.indexes fixed) index → Covers (layer_at texts) b s combine (layer_at texts index)
-      by false stood = plain_covers texts b s job.pages.index index fixed stood layer
+      by false stood = plain_covers texts b s job.pages.index index fixed stood (subst (λ (m : MetadataState). (key : Bytes) → within m.keys key ≡ true → layer_in texts fixed key ≡ s.fixed key) said_is layer)
       by true stood =
           subst (λ (m : MetadataState). (key : Bytes) → within m.keys key ≡ true → flat (layer_at texts index key) ≡ flat (over s.fixed (indexed (layer_at texts) m.indexes) key)) said_is
           (λ key inside.
           ap flat (layer_says texts job.pages.index (written_entries texts true r.said.keys r.indexes fixed) index stood key)
           ∙ combined_layer texts r.said.keys r.indexes r.said.indexes fixed key installed written are inside
-          ∙ ap (λ o. flat (pick o (indexed (layer_at texts) r.said.indexes key))) (layer key))
+          ∙ ap (λ o. flat (pick o (indexed (layer_at texts) r.said.indexes key))) (layer key inside))
 
   module _ (r : RangeState) (job : CheckpointState) (entries : Entries) (writes : WritesPages texts entries job.pages) (none : next_group job.pages ≡ None) (are : AreEntries entries) (may : may_record r job ≡ true)
       (e offset : ℕ) (stands : StandsAt (texts e) offset (groups.joined (index_group job.pages.index))) where

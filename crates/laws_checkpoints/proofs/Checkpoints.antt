@@ -87,17 +87,17 @@ module _ (texts : ℕ → Bytes) where
 
   module _ (b : Beginning) (s : Serving) (index : Index) (place : Place) where
     -- an index that was written of the fixed layer's entries
-    pub plain_covers : (fixed : Entries) → IsWritten texts index fixed place → ((key : Bytes) → layer_in texts fixed key ≡ s.fixed key) →
+    pub plain_covers : (fixed : Entries) → IsWritten texts index fixed place → ((key : Bytes) → within (said b s.records).keys key ≡ true → layer_in texts fixed key ≡ s.fixed key) →
         Covers (layer_at texts) b s false (layer_at texts place)
-    plain_covers fixed written is = λ key inside. layer_says texts index fixed place written key ∙ is key
+    plain_covers fixed written is = λ key inside. layer_says texts index fixed place written key ∙ is key inside
 
     -- an index that was written of what all old indexes and the fixed layer's entries combine to
     pub combined_covers : (newer : Option Entries) → AreWritten texts (said b s.records).indexes → MayBeEntries newer →
         IsWritten texts index (combined (merged (said b s.records).keys (contents_of texts (said b s.records).indexes)) newer) place →
-        ((key : Bytes) → newer_layer newer key ≡ s.fixed key) → Covers (layer_at texts) b s true (layer_at texts place)
+        ((key : Bytes) → within (said b s.records).keys key ≡ true → newer_layer newer key ≡ s.fixed key) → Covers (layer_at texts) b s true (layer_at texts place)
     combined_covers newer old newer_are written is = λ key inside.
         let indexes : List IndexRange = (said b s.records).indexes in
         let keys : KeyRange = (said b s.records).keys in
         ap flat (layer_says texts index (combined (merged keys (contents_of texts indexes)) newer) place written key)
         ∙ combined_says keys indexes newer key (contents_written texts indexes old) newer_are inside
-        ∙ ap (λ o. flat (pick o (indexed (layer_at texts) indexes key))) (is key)
+        ∙ ap (λ o. flat (pick o (indexed (layer_at texts) indexes key))) (is key inside)

@@ -197,13 +197,13 @@ abbrev pub server : Entries → Serving
 server fixed = record nothing_held { fixed = layer_in texts fixed }
 
 covers_fixed : Covers (layer_at texts) beginning (server entries) false (layer_at texts index_place)
-covers_fixed = plain_covers texts beginning (server entries) index index_place entries is_written (λ key. refl)
+covers_fixed = plain_covers texts beginning (server entries) index index_place entries is_written (λ key inside. refl)
 
 covers_all : Covers (layer_at texts) beginning (server newer) true (layer_at texts combined_place)
 covers_all =
     combined_covers texts beginning (server newer) combined_index combined_place (Some newer) ((index, entries, is_written), tt)
     (record { ascending = refl; each = (((omega arith, omega arith), tt), tt) })
-    (subst (λ es. IsWritten texts combined_index es combined_place) (sym combines.0) is_combined) (λ key. refl)
+    (subst (λ es. IsWritten texts combined_index es combined_place) (sym combines.0) is_combined) (λ key inside. refl)
 
 -- ---- observations
 

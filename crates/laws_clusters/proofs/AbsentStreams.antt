@@ -1,6 +1,6 @@
 -- A stream that is not there yet, through each move: nobody asks for it, and where it is asked to be built, it is built of one that
 -- is there. In the event in which the manager builds it, its machine begins.
-use Rattle.std.proofs.Common.{◌≡◌, ◌≢◌, ◌⊎◌, ℕ, suc, ◌≤◌, Bool, true, false, List, [], ◌∷◌, ◌++◌, Option, Some, None, Contains, refl, sym, ap, ◌∙◌, subst, inl, inr, arith}
+use Rattle.std.proofs.Common.{◌≡◌, ◌≢◌, ◌⊎◌, ℕ, suc, ◌≤◌, true, List, [], ◌∷◌, ◌++◌, None, Contains, refl, sym, ap, ◌∙◌, subst, inl, inr, arith}
 use Rattle.wire.specs.declared.actor.ActorId.{ActorId}
 use Rattle.wire.specs.declared.actor.ActorId.TheVariants.{Server}
 use Rattle.wire.specs.declared.body.Body.{Body}
@@ -13,8 +13,7 @@ use Rattle.wire.specs.declared.streams.Modify.{Modify}
 use Rattle.wire.specs.declared.streams.Source.{Source}
 use Rattle.wire.specs.declared.streams.StreamKind.TheVariants.{BlobData}
 use Rattle.wire.specs.declared.streams.StreamName.{StreamName}
-use Rattle.replica.specs.Groups.{Group}
-use Rattle.streams.specs.Streams.{Stream, stream_of}
+use Rattle.streams.specs.Streams.{stream_of}
 use Rattle.model_streams.specs.declared.event.Event.{Event}
 use Rattle.model_streams.specs.Manager.{Catalog}
 use Rattle.model_streams.specs.Outcome.{packet}
@@ -25,9 +24,8 @@ use Rattle.laws_streams.proofs.BuildRequests.{ServersAsk, servers_ask}
 use Rattle.laws_streams.proofs.Choices.{contains_pushed}
 use Rattle.laws_streams.proofs.Invariant.{run_moves_push}
 use Rattle.laws_streams.proofs.Listings.{moved_goes}
-use Rattle.laws_streams.proofs.ListRules.{BuildsStream, Goes}
+use Rattle.laws_streams.proofs.ListRules.{Goes}
 use Rattle.laws_streams.proofs.StreamAnswers.{same_packet}
-use Rattle.model_histories.specs.ServerTurns.{after_all}
 use Rattle.laws_stream_machine.specs.Refinement.{IsThere}
 use Rattle.laws_stream_machine.proofs.BuiltStreams.{NobodyAsked, IsAbsent, BuildsAlone, Machine, Begins, below_born}
 use Rattle.laws_clusters.proofs.StreamEvents.{happens_servers}

@@ -19,12 +19,13 @@ use Rattle.client.specs.Requests.{is_same}
 use Rattle.model_streams.specs.Outcome.{packet}
 use Rattle.model_streams.specs.StreamSystem.{StreamSystem, Move}
 use Rattle.model_partition.specs.declared.server_context.ServerContext.{ServerContext}
+use Rattle.model_partition.specs.declared.split_job.SplitJob.{SplitJob}
 use Rattle.model_partition.specs.Range.{OutGroup, RangeState, request, picking}
 use Rattle.memtable.specs.declared.cell.Place.{Place}
 use Rattle.model_partition.specs.CheckpointStates.{CheckpointState}
 use Rattle.model_partition.specs.declared.checkpoint_job.CheckpointPhase.TheVariants as checkpoints
 use Rattle.model_histories.specs.ServerTurns.{Whole}
-use Rattle.model_histories.specs.StreamActions.{group_of, record_group}
+use Rattle.model_histories.specs.StreamActions.{split_group, group_of, record_group}
 use Rattle.laws_streams.proofs.ContentAnswers.{content_answered}
 use Rattle.laws_stream_machine.specs.Refinement.{Sent, Appends, purpose_of, IsAt, Means, MeansBy}
 use Rattle.laws_stream_machine.proofs.LowerLayer.{Below, system}
@@ -141,3 +142,22 @@ module _ (generation : ℕ → ℕ) (name : StreamName) (nodes target : ℕ) (mo
 
     pub record_acked : (e offset : ℕ) → (reply_rule (picking d r.metadata) (request d) body).news ≡ Some (news.Appended e offset) → Records e offset
     record_acked = appended_tells Records (picking d r.metadata) (request d) body sent_records
+
+  -- ---- the record of a split
+
+  module _ (r : RangeState) (split : SplitJob) (told : IsTold generation name w i (stand_of generation whole i) sent r.metadata) (serves : ServesBy generation name w i (stand_of generation whole i) sent r.metadata r.metadata.job)
+      (group_is : JobIs (λ group. group ≡ split_group split) (Unit {0}) r.metadata.job r.metadata.group) (d : ServerContext) (from : ActorId) (server : ℕ) (body : Body) (there : Contains w.post (packet from (Server server) body))
+      (means : Means generation name w whole.state sent body) where
+    abbrev Splits : ℕ → ℕ → Type 0
+    Splits e offset = Contains w.notes (Acked e offset (split_group split))
+
+    sent_splits : (e : ℕ) (q v : ReqNo) (n offset : ℕ) → r.metadata.job ≡ jobs.Sent e q → is_same q v ≡ true → body ≡ bodies.Append (appends.Appended v n offset) → Splits e offset
+    sent_splits e q v n offset at same is =
+        let sent_is : SentIs generation name w i (stand_of generation whole i) sent r.metadata e q = subst (λ j. ServesBy generation name w i (stand_of generation whole i) sent r.metadata j) at serves in
+        let known : r.metadata.group ≡ split_group split = subst (λ j. JobIs (λ group. group ≡ split_group split) (Unit {0}) j r.metadata.group) at group_is in
+        subst (λ z. Contains w.notes (Acked e offset z)) known
+        (acked r.metadata told e q sent_is v n offset same from server (subst (λ b. Contains w.post (packet from (Server server) b)) is there) (subst (λ b. Means generation name w whole.state sent b) is means))
+
+    -- it is acknowledged where it stands
+    pub split_acked : (e offset : ℕ) → (reply_rule (picking d r.metadata) (request d) body).news ≡ Some (news.Appended e offset) → Splits e offset
+    split_acked = appended_tells Splits (picking d r.metadata) (request d) body sent_splits

@@ -1,5 +1,5 @@
 -- Where a server is told that the streams are built that it asked for, they are there.
-use Rattle.std.proofs.Common.{◌≡◌, ◌⊎◌, ℕ, Bool, true, false, not, ◌&&◌, nat_lt, List, [], ◌∷◌, ◌++◌, Option, Some, None, Result, Ok, Err, Contains, refl, sym, ap, ◌∙◌, subst, inl, inr, arith}
+use Rattle.std.proofs.Common.{◌≡◌, ℕ, Bool, true, false, List, [], ◌∷◌, ◌++◌, Option, Some, None, Result, Ok, Err, Contains, refl, sym, ap, ◌∙◌, subst, inl, inr, arith}
 use Rattle.block_types.specs.declared.record.Nodes.{Nodes}
 use Rattle.wire.specs.declared.actor.ActorId.{ActorId}
 use Rattle.wire.specs.declared.actor.ActorId.TheVariants.{Manager, Server}
@@ -18,9 +18,9 @@ use Rattle.wire.specs.declared.streams.StreamName.{StreamName}
 use Rattle.streams.specs.Streams.{Stream, Streams, stream_of, joined, built, modified, extending, trimming}
 use Rattle.model_streams.specs.declared.extent.Extent.{Extent}
 use Rattle.model_streams.specs.Actors.{is_user, generation_of}
-use Rattle.model_streams.specs.Manager.{Catalog, is_there, sealed_lengths, with_report, frozen_to, known_sealed, least_told, create_refusal, create_taken, open_refusal, open_taken, confirm_refusal, answer, is_foreign, is_pick, last_told, extend_made, extend_answered, extend_rule, trim_answered, trim_rule, modify_refusal, modify_taken, each_place, closes, reminders, told_sealed, seal_asked, seal_extent_rule, noted, frozen_rule, is_sealed_rule, asks_tail, place_of, first_sealed, short_rule, stream_body_rule, seal_body_rule, manager_rule, decide_rule}
+use Rattle.model_streams.specs.Manager.{Catalog, is_there, sealed_lengths, with_report, frozen_to, known_sealed, create_refusal, create_taken, open_refusal, open_taken, confirm_refusal, answer, is_foreign, is_pick, last_told, extend_made, extend_answered, extend_rule, trim_answered, trim_rule, modify_refusal, modify_taken, reminders, told_sealed, seal_asked, seal_extent_rule, noted, frozen_rule, is_sealed_rule, asks_tail, place_of, first_sealed, short_rule, stream_body_rule, seal_body_rule, manager_rule, decide_rule}
 use Rattle.model_streams.specs.Outcome.{Outcome, packet, silent, refused, or_refused}
-use Rattle.model_streams.specs.StreamSystem.{StreamSystem, is_request, is_server_call, is_told, start, Move, moved, run_moves}
+use Rattle.model_streams.specs.StreamSystem.{StreamSystem, start, Move, moved, run_moves}
 use Rattle.model_streams.proofs.Tests.{if_elim}
 use Rattle.laws_streams.proofs.BuildTests.{BuildsAll, modified_keeps, builds_of}
 use Rattle.laws_streams.proofs.Choices.{Each, each-append, each-contains, contains_get}
@@ -32,7 +32,7 @@ use Rattle.laws_streams.proofs.NodeAnswers as node
 use Rattle.laws_streams.proofs.PacketSources.{IsSpoken, rule_of, NodeSends, ManagerSends, DecisionSends, moved_gains}
 use Rattle.laws_streams.proofs.RisingFences.{with_here}
 use Rattle.laws_streams.proofs.StreamAnswers.{same_packet}
-use Rattle.model_streams.specs.Node.{Replica, extent_of}
+use Rattle.model_streams.specs.Node.{extent_of}
 use Rattle.laws_stream_machine.specs.Refinement.{IsThere}
 
 -- ---- the manager
@@ -42,7 +42,7 @@ abbrev pub AllThere : Streams → List Modify → Type 0
 AllThere streams list = Each (λ (m : Modify). (x : Stream) × (stream_of streams m.stream ≡ Some x)) list
 
 -- those that are built are there
-built_there : (sealed : ℕ → Option ℕ) (list : List Modify) (streams : Streams) → BuildsAll sealed streams list → AllThere (modified streams list) list
+pub built_there : (sealed : ℕ → Option ℕ) (list : List Modify) (streams : Streams) → BuildsAll sealed streams list → AllThere (modified streams list) list
 built_there sealed [] streams all = tt
 built_there sealed (m ∷ list) streams all = (
   (joined streams m.sources, modified_keeps sealed list (built streams m) all.1 m.stream (joined streams m.sources) (with_here streams m.stream (joined streams m.sources))),

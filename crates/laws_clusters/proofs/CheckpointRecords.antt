@@ -14,29 +14,29 @@ use Rattle.model_partition.specs.CheckpointStates.{CheckpointState}
 use Rattle.model_partition.specs.Checkpoints.{has_record_number}
 use Rattle.model_partition.specs.Range.{RangeState}
 use Rattle.model_histories.specs.StreamActions.{record_group}
-use Rattle.laws_log_reads.specs.Reads.{IsCheckpoint, SaysCheckpoint}
+use Rattle.laws_log_reads.specs.Reads.{LeavesOneRegion, SaysOneRegion}
 
 -- a bind that gives something had something
 taken_at : {A B : Type 0} (r : Option A) (x : A) (f : A → Option B) (y : B) → r ≡ Some x → (r >>= f) ≡ Some y → f x ≡ Some y
 taken_at r x f y is e = ap (λ o. o >>= f) (sym is) ∙ e
 
 -- what the fields of a checkpoint spell is read as one
-checkpoint_read : (fields : List ℕ) (y : MetaItem) → checkpoint_at fields ≡ Some y → IsCheckpoint y
+checkpoint_read : (fields : List ℕ) (y : MetaItem) → checkpoint_at fields ≡ Some y → LeavesOneRegion y
 unfolding checkpoint_at
 checkpoint_read fields y e =
     let x = bind_some (pair_at flag_at (pair_at place_at (pair_at position_at next_at)) fields) (λ x. whole (Some (Checkpoint x.0.0 x.0.1.0 x.0.1.1.0 x.0.1.1.1, x.1))) y e in
     by_rest (Checkpoint x.0.0.0 x.0.0.1.0 x.0.0.1.1.0 x.0.0.1.1.1) tt (length x.0.1 == 0) x.2
   where
-    by_rest : (z : MetaItem) → IsCheckpoint z → (b : Bool) → (if b then Some z else None) ≡ Some y → IsCheckpoint y
-    by_rest z is true k = let same : z ≡ y = cc in subst IsCheckpoint same is
+    by_rest : (z : MetaItem) → LeavesOneRegion z → (b : Bool) → (if b then Some z else None) ≡ Some y → LeavesOneRegion y
+    by_rest z is true k = let same : z ≡ y = cc in subst LeavesOneRegion same is
     by_rest z is false k = absurd cc
 
-item_read : (fields : List ℕ) (y : MetaItem) → item_at 2 fields ≡ Some y → IsCheckpoint y
+item_read : (fields : List ℕ) (y : MetaItem) → item_at 2 fields ≡ Some y → LeavesOneRegion y
 unfolding item_at
 item_read fields y e = checkpoint_read fields y e
 
 -- a number, the kind of a checkpoint, and fields
-record_read : (n : ℕ) (fields : List ℕ) (r : MetaRecord) → n < 2 ^ 64 → record_at (number 8 n ++ (number 1 2 ++ fields)) ≡ Some r → IsCheckpoint r.item
+record_read : (n : ℕ) (fields : List ℕ) (r : MetaRecord) → n < 2 ^ 64 → record_at (number 8 n ++ (number 1 2 ++ fields)) ≡ Some r → LeavesOneRegion r.item
 unfolding record_at next_at
 record_read n fields r less e =
     let a = bind_some (next_at (number 8 n ++ (number 1 2 ++ fields))) (λ n. number_at 1 n.1 >>= λ kind. item_at kind.0 kind.1 >>= λ item. Some (record { number = n.0; item = item })) r e in
@@ -55,11 +55,11 @@ record_read n fields r less e =
         by_test true k = let same : (n, number 1 2 ++ fields) ≡ z = cc in sym same
         by_test false k = absurd cc
 
-    made : (m : ℕ) (y : MetaItem) → Some (record { number = m; item = y }) ≡ Some r → IsCheckpoint y → IsCheckpoint r.item
-    made m y is b = let same : record { number = m; item = y } ≡ r = cc in subst (λ (z : MetaRecord). IsCheckpoint z.item) same b
+    made : (m : ℕ) (y : MetaItem) → Some (record { number = m; item = y }) ≡ Some r → LeavesOneRegion y → LeavesOneRegion r.item
+    made m y is b = let same : record { number = m; item = y } ≡ r = cc in subst (λ (z : MetaRecord). LeavesOneRegion z.item) same b
 
 -- the record that a range appends is one of a checkpoint
-pub record_says : (r : RangeState) (job : CheckpointState) (index : Place) → has_record_number r ≡ true → SaysCheckpoint (record_group r job index)
+pub record_says : (r : RangeState) (job : CheckpointState) (index : Place) → has_record_number r ≡ true → SaysOneRegion (record_group r job index)
 record_says r job index has x read =
     let below : suc r.said.next < 2 ^ 64 = ltb-true (suc r.said.next) (2 ^ 64) has in
     record_read r.said.next (flag job.combine ++ (place index ++ (position job.position ++ number 8 job.next))) x (omega (arith, below)) read

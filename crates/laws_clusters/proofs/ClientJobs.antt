@@ -31,11 +31,13 @@ use Rattle.laws_ranges.proofs.ClientReplies.{ByJob, reply_takes}
 
 -- ---- what a job waits for
 
--- a request about extents is that of the client's job: its extent, its group, its stream
+-- a request about extents is that of the client's job: its extent, its group, its stream; no stream is built, and nothing is asked of the map
 abbrev pub AsksBy : ClientState → Body → Type 0
 AsksBy c (bodies.Append (appends.Append e g blocks q)) = (c.job ≡ Sent e q) × (blocks ≡ c.group)
 AsksBy c (bodies.Seal (seals.SealExtent e q)) = (c.job ≡ Closing e q) ⊎ (c.job ≡ Shutting e q)
 AsksBy c (bodies.Stream (streams.Extend stream g last pick q)) = (c.job ≡ Growing last q) × (stream ≡ c.stream)
+AsksBy c (bodies.Stream (streams.MultiModify list q)) = ⊥
+AsksBy c (bodies.Map body) = ⊥
 AsksBy c body = Unit {0}
 
 abbrev pub AskedIf : ClientState → Option Packet → Type 0

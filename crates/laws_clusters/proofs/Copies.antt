@@ -11,15 +11,15 @@ use Rattle.laws_tables.proofs.Members.{in_left, in_right}
 use Rattle.laws_tables.proofs.Turns.{all_good}
 use Rattle.laws_stream_machine.proofs.ServerRequests.{turn_upper}
 use Rattle.laws_stream_machine.proofs.NodeAnswers.{in_shut}
-use Rattle.laws_log_reads.specs.Reads.{SaysCheckpoint, HasCheckpoints}
+use Rattle.laws_log_reads.specs.Reads.{SaysOneRegion, HasOneRegion}
 use Rattle.laws_clusters.proofs.LayerSteps.{layer_same}
 
 abbrev pub IsMade : Story Group → Copy Group → Type 0
 IsMade story c = (g : ℕ) × (event_at story c.append ≡ Some (Made g c.group))
 
--- each group that was formed says a checkpoint
+-- each group that was formed leaves one region
 abbrev pub AllSay : Story Group → Type 0
-AllSay story = (n g : ℕ) (group : Group) → event_at story n ≡ Some (Made g group) → SaysCheckpoint group
+AllSay story = (n g : ℕ) (group : Group) → event_at story n ≡ Some (Made g group) → SaysOneRegion group
 
 abbrev pub AllMade : Story Group → List (Copy Group) → Type 0
 AllMade story cs = (c : Copy Group) → In c cs → IsMade story c
@@ -143,9 +143,9 @@ module _ (generation : ℕ → ℕ) where
 
   -- ---- the metadata
 
-  -- where each group that is formed says a checkpoint, so does all that stands
-  pub has_checkpoints : (moves : List (Move Group generation)) → AreMoves Group generation moves → AllSay (after_all Group generation moves).state.story → (i : ℕ) → HasCheckpoints i (after_all Group generation moves).state
-  has_checkpoints moves ok all i = record {
+  -- where each group that is formed leaves one region, so does all that stands
+  pub has_one_region : (moves : List (Move Group generation)) → AreMoves Group generation moves → AllSay (after_all Group generation moves).state.story → (i : ℕ) → HasOneRegion i (after_all Group generation moves).state
+  has_one_region moves ok all i = record {
     sealed = λ index y is c there.
         (let k = shut_made (after_all Group generation moves).state (stands moves ok) index y is c there in
         all c.append k.0 c.group k.1);

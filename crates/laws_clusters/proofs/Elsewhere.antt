@@ -1,5 +1,5 @@
 -- What is sent of one range's streams says nothing of any stream of another range.
-use Rattle.std.proofs.Common.{◌≡◌, ◌⊎◌, ℕ, List, [], ◌∷◌, Option, Some, None, refl, sym, ap, ◌∙◌, inl, inr}
+use Rattle.std.proofs.Common.{◌≡◌, ◌⊎◌, ℕ, zero, suc, List, [], ◌∷◌, Option, Some, None, Contains, refl, sym, ap, ◌∙◌, subst, inl, inr, arith}
 use Rattle.wire.specs.declared.actor.ReqNo.{ReqNo}
 use Rattle.wire.specs.declared.body.AppendBody.TheVariants as appends
 use Rattle.wire.specs.declared.body.Body.{Body}
@@ -9,13 +9,17 @@ use Rattle.wire.specs.declared.body.ReadBody.TheVariants as reads
 use Rattle.wire.specs.declared.body.SealBody.TheVariants as seals
 use Rattle.wire.specs.declared.body.StreamBody.TheVariants as streams
 use Rattle.wire.specs.declared.packet.Packet.{Packet}
+use Rattle.wire.specs.declared.streams.Modify.{Modify}
 use Rattle.wire.specs.declared.streams.StreamName.{StreamName}
 use Rattle.replica.specs.Groups.{Group}
 use Rattle.model_streams.specs.StreamSystem.{StreamSystem}
+use Rattle.model_partition.specs.declared.split_job.SplitJob.{SplitJob}
 use Rattle.model_partition.specs.Range.{RangeState}
 use Rattle.model_histories.specs.ServerTurns.{Whole}
-use Rattle.laws_stream_machine.specs.Refinement.{Purpose, Sent, purpose_of, asked_number, IsAt, IsUnsealedAt, IsAsked, OfExtent, OfStream}
-use Rattle.laws_ranges.specs.Serves.{Side, metadata_of, log_of, rows_of, IsOfRows, BuildsNone, AskedOfBoth}
+use Rattle.laws_stream_machine.specs.Refinement.{Purpose, Sent, purpose_of, asked_number, IsAt, IsUnsealedAt, IsThere, IsAsked, OfExtent, OfStream}
+use Rattle.laws_ranges.specs.Serves.{Side, metadata_of, log_of, rows_of, IsOfRows, BuildsNone}
+use Rattle.laws_ranges.specs.SplitJobs.{IsBuildOf, AskedOfSplit}
+use Rattle.laws_clusters.proofs.RangeStreams.{LeavesAlone}
 use Rattle.laws_clusters.proofs.StreamMachines.{AllAskedOf}
 
 -- what never is a number's purpose leaves it none
@@ -36,6 +40,20 @@ RowsRequest w range (bodies.Stream (streams.OpenStreams r g q)) = ⊥
 RowsRequest w range (bodies.Stream (streams.Confirm r g q)) = ⊥
 RowsRequest w range (bodies.Stream (streams.Extend stream g last pick q)) = stream ≡ rows_of range
 RowsRequest w range body = Unit {0}
+
+-- where streams are to be built, this one is none of them, or there already
+abbrev pub BuildsAside : StreamName → StreamSystem → Body → Type 0
+BuildsAside name w (bodies.Stream (streams.MultiModify list q)) = (m : Modify) → Contains list m → m.stream ≡ name → IsThere w name
+BuildsAside name w body = Unit {0}
+
+abbrev pub AllBuildAside : StreamName → StreamSystem → List Packet → Type 0
+AllBuildAside name w [] = Unit {0}
+AllBuildAside name w (p ∷ ps) = BuildsAside name w p.body × AllBuildAside name w ps
+
+pub builds_none_aside : (name : StreamName) (w : StreamSystem) (body : Body) → BuildsNone body → BuildsAside name w body
+builds_none_aside name w (bodies.Stream (streams.MultiModify list q)) none = λ m among same. absurd (none m among)
+builds_none_aside name w (bodies.Stream body) none = tt
+builds_none_aside name w body none = tt
 
 module _ (generation : ℕ → ℕ) (range : ℕ) (w : StreamSystem) (i : ℕ) (n k : Side) where
   -- the number has a purpose in one of the range's streams
@@ -93,7 +111,7 @@ module _ (generation : ℕ → ℕ) (range : ℕ) (w : StreamSystem) (i : ℕ) (
         of_another h (inl known) = known (one.elsewhere (not_one h)) (two.elsewhere (not_two h))
         of_another h (inr rows) = not_rows h rows.0
 
-    asked_elsewhere : (body : Body) → IsAsked generation (metadata_of range) w n.stand.state n.sent body → IsAsked generation (log_of range) w k.stand.state k.sent body → IsRowsElse sent body → BuildsNone body →
+    asked_elsewhere : (body : Body) → IsAsked generation (metadata_of range) w n.stand.state n.sent body → IsAsked generation (log_of range) w k.stand.state k.sent body → IsRowsElse sent body → BuildsAside name w body →
         IsAsked generation name w whole.state sent body
     asked_elsewhere (bodies.Append (appends.Append e g blocks q)) one two rows builds = of_extent e q one two (owner q (rows q refl))
     asked_elsewhere (bodies.Append body) one two rows builds = tt
@@ -108,11 +126,42 @@ module _ (generation : ℕ → ℕ) (range : ℕ) (w : StreamSystem) (i : ℕ) (
     asked_elsewhere (bodies.Stream (streams.Extend stream g last pick q)) one two rows builds =
         of_stream q one two (owner q (rows q refl)) (λ h a. apart (ap (λ (z : StreamName). z.range) (sym h ∙ a))) (λ h a. apart (ap (λ (z : StreamName). z.range) (sym h ∙ a)))
         (λ h a. apart (ap (λ (z : StreamName). z.range) (sym h ∙ a)))
-    asked_elsewhere (bodies.Stream (streams.MultiModify list q)) one two rows builds = λ m among same. absurd (builds m among)
+    asked_elsewhere (bodies.Stream (streams.MultiModify list q)) one two rows builds = builds
     asked_elsewhere (bodies.Stream body) one two rows builds = tt
     asked_elsewhere body one two rows builds = tt
 
-    -- what is asked of both streams of the range is asked as another range's stream sees it
-    pub all_elsewhere : (nodes target : ℕ) (after : Option RangeState) (ps : List Packet) → AskedOfBoth generation range w i after n k ps → AreRowsElse sent ps → AllAskedOf generation nodes target name w whole sent ps
-    all_elsewhere nodes target after [] asked rows = tt
-    all_elsewhere nodes target after (p ∷ ps) asked rows = (asked_elsewhere p.body asked.0.0 asked.0.1 rows.0 asked.0.3, all_elsewhere nodes target after ps asked.1 rows.1)
+    -- what is asked of both streams of the range, and of its split, is asked as another range's stream sees it
+    pub all_elsewhere : (nodes target : ℕ) (after : Option RangeState) (job : Option SplitJob) (ps : List Packet) → AskedOfSplit generation range w i after job n k ps → AreRowsElse sent ps → AllBuildAside name w ps →
+        AllAskedOf generation nodes target name w whole sent ps
+    all_elsewhere nodes target after job [] asked rows builds = tt
+    all_elsewhere nodes target after job (p ∷ ps) asked rows builds = (asked_elsewhere p.body asked.0.0 asked.0.1 rows.0 builds.0, all_elsewhere nodes target after job ps asked.1 rows.1 builds.1)
+
+  -- ---- streams of other ranges that are absent
+
+  module _ (name : StreamName) (apart : name.range ≡ range → ⊥) where
+    other_range : (r : ℕ) → r ≡ name.range → r ≡ range → ⊥
+    other_range r here own = apart (sym here ∙ own)
+
+    other_stream : (stream own : StreamName) → own.range ≡ range → stream ≡ name → stream ≡ own → ⊥
+    other_stream stream own of here same = apart (ap (λ (z : StreamName). z.range) (sym here ∙ same) ∙ of)
+
+    -- none of them is asked for
+    asked_alone : (body : Body) → IsAsked generation (metadata_of range) w n.stand.state n.sent body → IsAsked generation (log_of range) w k.stand.state k.sent body → IsRowsElse [] body → LeavesAlone name body
+    asked_alone (bodies.Stream (streams.OpenStreams r g q)) one two rows = λ here. (rows q refl (one.elsewhere (other_range r here)) (two.elsewhere (other_range r here))).0
+    asked_alone (bodies.Stream (streams.Confirm r g q)) one two rows = λ here. (rows q refl (one.elsewhere (other_range r here)) (two.elsewhere (other_range r here))).0
+    asked_alone (bodies.Stream (streams.Extend stream g last pick q)) one two rows =
+        λ here.
+        other_stream stream (rows_of range) refl here (rows q refl (one.elsewhere (other_stream stream (metadata_of range) refl here)) (two.elsewhere (other_stream stream (log_of range) refl here))).0
+    asked_alone (bodies.Stream body) one two rows = tt
+    asked_alone body one two rows = tt
+
+    pub all_alone : (after : Option RangeState) (job : Option SplitJob) (ps : List Packet) → AskedOfSplit generation range w i after job n k ps → AreRowsElse [] ps → (p : Packet) → Contains ps p → LeavesAlone name p.body
+    all_alone after job [] asked rows p (at, less, is) = absurd (omega (arith, less))
+    all_alone after job (x ∷ ps) asked rows p (zero, less, is) = subst (λ (z : Packet). LeavesAlone name z.body) is (asked_alone x.body asked.0.0 asked.0.1 rows.0)
+    all_alone after job (x ∷ ps) asked rows p (suc at, less, is) = all_alone after job ps asked.1 rows.1 p (at, omega (arith, less), is)
+
+  -- a list to build is empty, or that of the split
+  pub builds_own : (after : Option RangeState) (job : Option SplitJob) (ps : List Packet) → AskedOfSplit generation range w i after job n k ps → (p : Packet) → Contains ps p → BuildsNone p.body ⊎ IsBuildOf job p.body
+  builds_own after job [] asked p (at, less, is) = absurd (omega (arith, less))
+  builds_own after job (x ∷ ps) asked p (zero, less, is) = subst (λ (z : Packet). BuildsNone z.body ⊎ IsBuildOf job z.body) is asked.0.3
+  builds_own after job (x ∷ ps) asked p (suc at, less, is) = builds_own after job ps asked.1 p (at, omega (arith, less), is)

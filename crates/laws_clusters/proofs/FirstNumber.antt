@@ -1,23 +1,29 @@
 -- What comes to the servers of a run without merges never makes a second range of the first one's number, whatever ranges are split.
-use Rattle.std.proofs.Common.{◌≡◌, ℕ, Bool, true, false, List, [], ◌∷◌, ◌++◌, Option, Some, None, slice_get, nat_lt, Contains, refl, subst, if◌then◌else◌}
+use Rattle.std.proofs.Common.{◌≡◌, ◌⊎◌, ℕ, Bool, true, false, List, [], ◌∷◌, ◌++◌, Option, Some, None, slice_get, nat_lt, Contains, refl, sym, subst, inl, inr, if◌then◌else◌}
 use Rattle.wire.specs.declared.actor.ActorId.{ActorId}
 use Rattle.wire.specs.declared.actor.ActorId.TheVariants.{Node, Manager, Map, Server, User}
 use Rattle.wire.specs.declared.body.Body.{Body}
 use Rattle.wire.specs.declared.body.Body.TheVariants as bodies
 use Rattle.wire.specs.declared.body.MapBody.{MapBody}
 use Rattle.wire.specs.declared.body.MapBody.TheVariants as maps
+use Rattle.wire.specs.declared.body.StreamBody.TheVariants.{MultiModify}
 use Rattle.wire.specs.declared.packet.Packet.{Packet}
+use Rattle.wire.specs.declared.streams.Modify.{Modify}
 use Rattle.model_streams.specs.declared.event.Event.{Event}
 use Rattle.model_streams.specs.declared.event.Event.TheVariants.{Submit, Deliver, Stop, Restart, Decide, GiveUp, Assign, Renew, Moment as MomentTold, Checkpoint, Split, Merge}
+use Rattle.model_streams.specs.Actors.{is_user}
 use Rattle.model_streams.specs.Outcome.{packet}
+use Rattle.model_streams.specs.StreamSystem.{is_request}
 use Rattle.model_partition.specs.Past.{first_range}
 use Rattle.model_partition.specs.Cluster.{AreUnmerged, Cluster, cluster_after, first_cluster}
 use Rattle.model_histories.specs.ServerRun.{ServerEvent, Moment}
 use Rattle.model_histories.specs.ServedTables.{IsOfOthers, AreUnborn}
 use Rattle.laws_streams.proofs.Choices.{contains_get}
-use Rattle.laws_map.specs.NewNumbers.{IsTaken}
+use Rattle.laws_map.specs.Naming.{IsBuilt, BodyNames}
+use Rattle.laws_map.specs.NewNumbers.{apart_from, IsTaken}
 use Rattle.laws_map.proofs.NewNumbers.{taken_on, taken_told, first_is_taken}
-use Rattle.laws_clusters.specs.ServerEvents.{packet_events, delivery_events, stop_events, start_events, server_events, server_events_after}
+use Rattle.laws_clusters.specs.ServerEvents.{takes_build, built_by, built_events, packet_events, delivery_events, stop_events, start_events, server_events, server_events_after}
+use Rattle.laws_clusters.proofs.BuildEvents.{users_build_none}
 
 module _ (range : ℕ) where
   abbrev Unborn : List ServerEvent → Type 0
@@ -41,14 +47,29 @@ module _ (range : ℕ) where
         go (Server s) body e f = tt
         go (User user) body e f = tt
 
-    delivered_unborn : (number : ℕ) (o : Option Packet) → slice_get c.stream_layer.post number ≡ o → Unborn (delivery_events o ++ coming)
+    -- the manager builds its streams of no others
+    built_unborn : (p : Packet) → Contains c.stream_layer.post p → Unborn (built_events (built_by c.stream_layer p p.body) ++ coming)
+    built_unborn p there = by p.body (x.names.post p there)
+      where
+        by_list : (list : List Modify) → ((is_user p.from ≡ true) × (is_request p.body ≡ true)) ⊎ IsBuilt (apart_from range) list → (b : Bool) → takes_build c.stream_layer p list ≡ b →
+            Unborn (built_events (if b then list else []) ++ coming)
+        by_list list names false e = u
+        by_list list (inl asks) true e = absurd (users_build_none c.stream_layer p list asks.0 e)
+        by_list list (inr of) true e = subst (λ l. Unborn (built_events l ++ coming)) (sym of.is) (of.split.1, (of.split.0, u))
+
+        by : (body : Body) → ((is_user p.from ≡ true) × (is_request p.body ≡ true)) ⊎ BodyNames (apart_from range) body → Unborn (built_events (built_by c.stream_layer p body) ++ coming)
+        by (bodies.Stream (MultiModify list q)) names = by_list list names (takes_build c.stream_layer p list) refl
+        by (bodies.Stream body) names = u
+        by body names = u
+
+    delivered_unborn : (number : ℕ) (o : Option Packet) → slice_get c.stream_layer.post number ≡ o → Unborn (delivery_events c o ++ coming)
     delivered_unborn number None at = u
     delivered_unborn number (Some p) at = go p.to
       where
-        go : (to : ActorId) → Unborn (packet_events to p ++ coming)
+        go : (to : ActorId) → Unborn (packet_events c to p ++ coming)
         go (Server s) = (told_others p (contains_get c.stream_layer.post number p at), u)
         go (Node n) = u
-        go Manager = u
+        go Manager = built_unborn p (contains_get c.stream_layer.post number p at)
         go Map = u
         go (User user) = u
 

@@ -1,41 +1,51 @@
 -- Where a cluster stands: the machines of each range's streams beside its run, the incarnation that each range at a server is of,
 -- the numbers of requests, and what its servers have made of what came to them.
-use Rattle.std.proofs.Common.{◌≡◌, ◌⊎◌, ℕ, ◌<◌, ◌≤◌, true, false, List, [], Option, Some, None, Contains}
+use Rattle.std.proofs.Common.{◌≡◌, ◌⊎◌, ℕ, ◌<◌, ◌≤◌, true, List, [], Option, Some, None, Contains, sym, ◌∙◌, inl, inr}
 use Rattle.wire.specs.declared.actor.ActorId.{ActorId}
 use Rattle.wire.specs.declared.actor.ActorId.TheVariants.{Map, Server}
 use Rattle.wire.specs.declared.actor.ReqNo.{ReqNo}
 use Rattle.wire.specs.declared.body.Body.{Body}
+use Rattle.wire.specs.declared.body.Body.TheVariants as bodies
+use Rattle.wire.specs.declared.body.MapBody.TheVariants as maps
+use Rattle.wire.specs.declared.body.StreamBody.TheVariants as streams
 use Rattle.wire.specs.declared.packet.Packet.{Packet}
 use Rattle.wire.specs.declared.streams.StreamKind.TheVariants as kinds
 use Rattle.wire.specs.declared.streams.StreamName.{StreamName}
 use Rattle.replica.specs.Groups.{Group}
+use Rattle.streams.specs.Streams.{stream_of}
 use Rattle.client.specs.Client.{awaits}
 use Rattle.model_streams.specs.Maps.{entry_at}
 use Rattle.model_streams.specs.Outcome.{packet}
 use Rattle.model_streams.specs.StreamSystem.{StreamSystem, Move, run_moves, start}
 use Rattle.model_partition.specs.Servers.{ServerCell}
 use Rattle.model_partition.specs.Cluster.{Cluster}
-use Rattle.model_partition.specs.Past.{Bytes, table_notes}
+use Rattle.model_partition.specs.Past.{Bytes, first_range}
+use Rattle.model_partition.specs.declared.split_job.SplitJob.{SplitJob}
 use Rattle.model_partition.specs.Range.{RangeState}
-use Rattle.model_partition.specs.Server.{ServerState, range_of}
+use Rattle.model_partition.specs.Server.{ServerState, range_of, split_of}
+use Rattle.model_partition.specs.Splits.{all_streams}
 use Rattle.model_histories.specs.ServedTables.{AreSeenAs}
 use Rattle.model_histories.specs.ServerRun.{ServerRun, RangeHistory, stream_named}
 use Rattle.model_histories.specs.ServerTurns.{after_all, AreMoves}
 use Rattle.model_histories.specs.ServerTurns as machine
 use Rattle.model_histories.specs.Story.{Story}
 use Rattle.model_histories.specs.TableContents.{AllTellRightly}
-use Rattle.laws_stream_machine.specs.Refinement.{Purpose, Sent, purpose_of, asked_number}
+use Rattle.laws_stream_machine.specs.Refinement.{Purpose, Sent, purpose_of, IsThere}
+use Rattle.laws_stream_machine.proofs.BuiltStreams.{IsAbsent}
 use Rattle.laws_stream_machine.proofs.LowerLayer.{Below}
 use Rattle.laws_ranges.specs.Seen.{BeganAt}
-use Rattle.laws_ranges.specs.Serves.{Side, metadata_of, log_of, Apart, Follows}
+use Rattle.laws_ranges.specs.Serves.{Side, metadata_of, log_of, Apart}
+use Rattle.laws_ranges.specs.SplitJobs.{waits_seal, waits_call, FollowsBoth}
 use Rattle.laws_ranges.proofs.TurnsAsMoves.{stand_of}
 use Rattle.laws_log_reads.specs.Reads.{HasRead}
 use Rattle.laws_server_runs.specs.Places.{AreAscending}
 use Rattle.laws_clusters.proofs.ClientJobs.{AsksBy}
 use Rattle.laws_clusters.proofs.Copies.{AllSay}
 use Rattle.laws_clusters.proofs.ObservedBytes.{AreObserved}
-use Rattle.laws_clusters.proofs.OneRange.{is_range_change, IsWord, AreFirst}
-use Rattle.laws_clusters.proofs.RequestNumbers.{IsPast, AreNumbersPast}
+use Rattle.laws_clusters.proofs.MapWords.{IsWord, AreCounted, AllHave}
+use Rattle.laws_clusters.proofs.RangeStreams.{HasStreams, AreOfSplits}
+use Rattle.laws_clusters.proofs.RequestNumbers.{IsPast, used_number, AreNumbersPast}
+use Rattle.laws_clusters.proofs.ServerNotes.{server_notes}
 
 -- a server that runs holds a range
 pub record HeldAt (servers : List ServerCell) (s range : ℕ) (r : RangeState) : Type 0 where
@@ -44,6 +54,45 @@ pub record HeldAt (servers : List ServerCell) (s range : ℕ) (r : RangeState) :
   pub there : entry_at servers s ≡ Some cell
   pub up : cell.state ≡ Some state
   pub found : range_of state.ranges range ≡ Some r
+
+-- and has a split of it under way
+pub record SplitAt (servers : List ServerCell) (s range : ℕ) (job : SplitJob) : Type 0 where
+  pub cell : ServerCell
+  pub state : ServerState
+  pub there : entry_at servers s ≡ Some cell
+  pub up : cell.state ≡ Some state
+  pub found : split_of state.splits range ≡ Some job
+
+-- what a split asks of the map, and what it asks to be built
+abbrev pub IsSplitAsk : SplitJob → Body → Type 0
+IsSplitAsk job (bodies.Stream (streams.MultiModify list q)) = list ≡ all_streams job
+IsSplitAsk job (bodies.Map (maps.BeginSplit range generation key q)) = (range ≡ job.range) × (generation ≡ job.generation) × (key ≡ job.key)
+IsSplitAsk job (bodies.Map (maps.CompleteSplit range generation q)) = (range ≡ job.range) × (generation ≡ job.generation)
+IsSplitAsk job body = Unit {0}
+
+-- What of a range waits for answers that are about no metadata and no log: its row data, the seal of row data for its split, and a call
+-- of its split.
+pub data Waiter : Type 0 where
+  OfRows : Waiter
+  OfSeal : Waiter
+  OfCall : Waiter
+
+abbrev pub Waits : List ServerCell → ℕ → ℕ → Waiter → ReqNo → Type 0
+Waits servers s range OfRows q = (r : RangeState) × HeldAt servers s range r × (awaits r.rows.job q ≡ true)
+Waits servers s range OfSeal q = (job : SplitJob) × SplitAt servers s range job × (waits_seal job.phase q ≡ true)
+Waits servers s range OfCall q = (job : SplitJob) × SplitAt servers s range job × (waits_call job.phase q ≡ true)
+
+-- it is about an extent, or a list of extents
+abbrev pub IsOfExtents : Waiter → Type 0
+IsOfExtents OfRows = Unit {0}
+IsOfExtents OfSeal = Unit {0}
+IsOfExtents OfCall = ⊥
+
+-- a request is that of its job
+abbrev pub AskedBy : List ServerCell → ℕ → ℕ → Waiter → Body → Type 0
+AskedBy servers s range OfRows body = (r : RangeState) → HeldAt servers s range r → AsksBy r.rows body
+AskedBy servers s range OfSeal body = Unit {0}
+AskedBy servers s range OfCall body = (job : SplitJob) → SplitAt servers s range job → IsSplitAsk job body
 
 -- a stream that is neither the metadata nor the log of a range
 abbrev pub IsOther : ℕ → StreamName → Type 0
@@ -75,17 +124,16 @@ module _ (generation : ℕ → ℕ) where
   abbrev pub AreDistinct : Machines → Machines → Type 0
   AreDistinct one other = (q : ReqNo) → HasNumber one q → HasNone other q
 
-  -- What the row data of a range waits for under a number: the number was used, and for no request about a metadata or a log; each
-  -- request under it is that of the job; and no other range waits for it with its row data.
-  pub record RowsOut (servers : List ServerCell) (machines : ℕ → Machines) (post : List Packet) (s range : ℕ) (r : RangeState) (q : ReqNo) : Type 0 where
+  -- A number that a range waits under with its row data, or with its split, was used; where it is about extents, for no request about a
+  -- metadata or a log; each request under it is that of the job; and nobody else waits for it.
+  pub record Out (servers : List ServerCell) (machines : ℕ → Machines) (post : List Packet) (s range : ℕ) (by : Waiter) (q : ReqNo) : Type 0 where
     pub past : IsPast servers q
-    pub none : (j : ℕ) → HasNone (machines j) q
-    pub asked : (server : ℕ) (to : ActorId) (body : Body) → Contains post (packet (Server server) to body) → asked_number body ≡ Some q → AsksBy r.rows body
-    pub alone : (t k : ℕ) (other : RangeState) → HeldAt servers t k other → awaits other.rows.job q ≡ true → (t ≡ s) × (k ≡ range)
+    pub none : IsOfExtents by → (j : ℕ) → HasNone (machines j) q
+    pub asked : (server : ℕ) (to : ActorId) (body : Body) → Contains post (packet (Server server) to body) → used_number body ≡ Some q → AskedBy servers s range by body
+    pub alone : (t k : ℕ) (other : Waiter) → Waits servers t k other q → (t ≡ s) × (k ≡ range) × (other ≡ by)
 
-  abbrev pub AllRowsOut : List ServerCell → (ℕ → Machines) → List Packet → Type 0
-  AllRowsOut servers machines post =
-      (s range : ℕ) (r : RangeState) → HeldAt servers s range r → (q : ReqNo) → awaits r.rows.job q ≡ true → RowsOut servers machines post s range r q
+  abbrev pub AllOut : List ServerCell → (ℕ → Machines) → List Packet → Type 0
+  AllOut servers machines post = (s range : ℕ) (by : Waiter) (q : ReqNo) → Waits servers s range by q → Out servers machines post s range by q
 
   -- where an incarnation stands in each, with the requests so far
   abbrev pub m_side : Machines → ℕ → Side
@@ -102,35 +150,65 @@ module _ (generation : ℕ → ℕ) (nodes target : ℕ) where
   abbrev pub here : List Move → StreamSystem
   here moves = run_moves moves (start nodes target)
 
+  -- the stream is absent, and nothing was done with it
+  pub record IsToBe (moves : List Move) (name : StreamName) (done : List (machine.Move Group generation)) (sent : List Sent) : Type 0 where
+    pub absent : IsAbsent name (here moves)
+    pub none_done : done ≡ []
+    pub none_sent : sent ≡ []
+
+  -- after these moves the stream is there, and the machine is the stream
+  pub record IsStream (moves : List Move) (name : StreamName) (done : List (machine.Move Group generation)) (sent : List Sent) : Type 0 where
+    pub there : IsThere (here moves) name
+    pub below : Below generation name nodes target moves (after_all Group generation done) sent
+
+  -- or it is absent
+  abbrev pub IsBeside : List Move → StreamName → List (machine.Move Group generation) → List Sent → Type 0
+  IsBeside moves name done sent = IsStream moves name done sent ⊎ IsToBe moves name done sent
+
+  -- where the stream is there the machine is that
+  pub there_below : (moves : List Move) (name : StreamName) (done : List (machine.Move Group generation)) (sent : List Sent) → IsBeside moves name done sent → IsThere (here moves) name →
+      Below generation name nodes target moves (after_all Group generation done) sent
+  there_below moves name done sent (inl stream) there = stream.below
+  there_below moves name done sent (inr to_be) (x, is) = absurd (let none : None ≡ Some x = sym to_be.absent.absent ∙ is in cc)
+
+  -- and where it is absent nothing was done with it
+  pub absent_to_be : (moves : List Move) (name : StreamName) (done : List (machine.Move Group generation)) (sent : List Sent) → IsBeside moves name done sent → stream_of (here moves).catalog.stream name ≡ None →
+      IsToBe moves name done sent
+  absent_to_be moves name done sent (inl stream) none = absurd (let (x, is) = stream.there in let c : None ≡ Some x = sym none ∙ is in cc)
+  absent_to_be moves name done sent (inr to_be) none = to_be
+
   module _ (moves : List Move) (range : ℕ) (x : Machines generation) where
     -- after these moves of the system the machines are the range's streams; those of range 0 are users'
     pub record AreBeside : Type 0 where
       pub m_are : AreMoves Group generation x.m
       pub l_are : AreMoves Group generation x.l
       pub apart : Apart x.m_sent x.l_sent
-      pub metadata : 1 ≤ range → Below generation (metadata_of range) nodes target moves (after_all Group generation x.m) x.m_sent
-      pub log : 1 ≤ range → Below generation (log_of range) nodes target moves (after_all Group generation x.l) x.l_sent
+      pub metadata : 1 ≤ range → IsBeside moves (metadata_of range) x.m x.m_sent
+      pub log : 1 ≤ range → IsBeside moves (log_of range) x.l x.l_sent
 
     -- a range at a server is of this incarnation, and this is what it has done with its streams
-    pub record Holds (h : RangeHistory) (i : ℕ) (r : RangeState) : Type 0 where
-      pub follows : Follows generation range (here moves) i (m_side generation x i) (l_side generation x i) r
+    pub record Holds (h : RangeHistory) (i : ℕ) (job : Option SplitJob) (r : RangeState) : Type 0 where
+      pub follows : FollowsBoth generation range (here moves) i job r (m_side generation x i) (l_side generation x i)
       pub read : HasRead range (here moves) i (after_all Group generation x.m).state (after_all Group generation x.l).state h r
       pub record_append : BeganAt (h.append kinds.Metadata) ((after_all Group generation x.m).phase i)
       pub append : BeganAt (h.append kinds.Log) ((after_all Group generation x.l).phase i)
 
     -- it is of the incarnation that is kept of it
-    pub record IsHeld (h : RangeHistory) (o : Option ℕ) (r : RangeState) : Type 0 where
+    pub record IsHeld (h : RangeHistory) (o : Option ℕ) (job : Option SplitJob) (r : RangeState) : Type 0 where
       pub counted : 1 ≤ range
       pub incarnation : ℕ
       pub is : o ≡ Some incarnation
-      pub holds : Holds h incarnation r
+      pub holds : Holds h incarnation job r
 
   -- each range of a server, under its number, is of the incarnation that is kept of it there
   pub record Runs (moves : List Move) (machines : ℕ → Machines generation) (history : ℕ → RangeHistory) (incarnation : ℕ → Option ℕ) (s : ℕ) (cell : ServerCell) (st : ServerState) : Type 0 where
     pub server : st.context.server ≡ s
     pub session : st.context.session ≡ cell.session
     pub ascending : AreAscending st.ranges
-    pub held : (range : ℕ) (r : RangeState) → range_of st.ranges range ≡ Some r → IsHeld moves range (machines range) (history range) (incarnation range) r
+    pub held : (range : ℕ) (r : RangeState) → range_of st.ranges range ≡ Some r → IsHeld moves range (machines range) (history range) (incarnation range) (split_of st.splits range) r
+    -- its splits are in the order of their ranges, and of ranges that it holds
+    pub splits_ascending : AreAscending st.splits
+    pub split_held : (range : ℕ) (job : SplitJob) → split_of st.splits range ≡ Some job → (r : RangeState) × (range_of st.ranges range ≡ Some r)
 
   -- all of a cluster, whose servers are those of a run
   pub record Standing (c : Cluster) (y : ServerRun) : Type 0 where
@@ -143,11 +221,15 @@ module _ (generation : ℕ → ℕ) (nodes target : ℕ) where
     -- numbers that have a purpose were used, and so was each number that a server has asked under
     pub past : (range : ℕ) (q : ReqNo) → HasNumber generation (machines range) q → IsPast c.servers q
     pub numbers : AreNumbersPast c.servers c.stream_layer.post
-    pub rows : AllRowsOut generation c.servers machines c.stream_layer.post
-    pub from_map : (to : ActorId) (body : Body) → Contains c.stream_layer.post (packet Map to body) → IsWord body
-    -- nobody asks the map for a split or a merge, so that it has the first range alone
-    pub no_change : (p : Packet) → Contains c.stream_layer.post p → is_range_change p.body ≡ false
-    pub first_range : AreFirst c.map.ranges
+    pub out : AllOut generation c.servers machines c.stream_layer.post
+    pub from_map : (to : ActorId) (body : Body) → Contains c.stream_layer.post (packet Map to body) → IsWord c.stream_layer body
+    -- the map's ranges have numbers from 1 on, and streams; so have the first one and each that a server holds
+    pub counted : AreCounted c.map
+    pub have : AllHave c.stream_layer c.map
+    pub first : HasStreams c.stream_layer first_range
+    pub there : (s range : ℕ) (r : RangeState) → HeldAt c.servers s range r → HasStreams c.stream_layer range
+    -- servers ask to build the streams of splits alone
+    pub lists : AreOfSplits c.stream_layer
     -- the incarnation that a range at a server is of, if it has one; those from a bound on have done nothing
     pub incarnation : (server range : ℕ) → Option ℕ
     pub bound : ℕ
@@ -157,9 +239,9 @@ module _ (generation : ℕ → ℕ) (nodes target : ℕ) where
     pub cells : c.servers ≡ y.servers
     pub servers : (s : ℕ) (cell : ServerCell) (st : ServerState) → entry_at c.servers s ≡ Some cell → cell.state ≡ Some st → Runs moves machines (y.history s) (incarnation s) s cell st
     pub stories : SeesAll y (λ range. (after_all Group generation (machines range).m).state.story) (λ range. (after_all Group generation (machines range).l).state.story)
-    -- what was formed of a metadata says checkpoints
+    -- what was formed of a metadata leaves one region of the log
     pub says : (range : ℕ) → AllSay (y.story (stream_named range kinds.Metadata))
     -- what reads were shown and what appends were answered for was observed, and what servers showed is what is seen of tables
     pub observed : (range : ℕ) → AreObserved c.stream_layer.notes (y.shown range)
     pub acked : (range : ℕ) → AreObserved c.stream_layer.notes (y.answered range)
-    pub told : (texts : ℕ → Bytes) → AllTellRightly texts c.stream_layer.notes → AreSeenAs texts y.notes (table_notes c.stream_layer.notes)
+    pub told : (texts : ℕ → Bytes) → AllTellRightly texts c.stream_layer.notes → AreSeenAs texts y.notes (server_notes c.stream_layer.notes)

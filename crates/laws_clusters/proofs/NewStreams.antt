@@ -1,6 +1,5 @@
 -- The streams of a range that the map has not numbered yet are to come; and what builds the two of a split leaves each stream to come.
-use Rattle.std.proofs.Common.{◌≡◌, ℕ, ◌≤◌, ◌<◌, true, List, [], ◌∷◌, Option, Some, None, Contains, refl, sym, ap, ◌∙◌, subst, inl, inr, arith}
-use Rattle.wire.specs.declared.actor.ActorId.{ActorId}
+use Rattle.std.proofs.Common.{◌≡◌, ℕ, ◌≤◌, ◌<◌, List, Option, Some, None, Contains, refl, ap, subst, inl, inr, arith}
 use Rattle.wire.specs.declared.actor.ActorId.TheVariants.{Server}
 use Rattle.wire.specs.declared.actor.ReqNo.{ReqNo}
 use Rattle.wire.specs.declared.body.Body.{Body}
@@ -19,7 +18,7 @@ use Rattle.model_partition.specs.declared.split_job.SplitJob.{SplitJob}
 use Rattle.model_partition.specs.Cluster.{AreUnmerged, Cluster, cluster_after_all, first_cluster}
 use Rattle.model_partition.specs.Splits.{built_stream, built_streams, all_streams}
 use Rattle.model_histories.specs.ServerRun.{stream_named}
-use Rattle.laws_map.specs.Naming.{Each, IsBuilt, StreamNames, BodyNames, PacketNames}
+use Rattle.laws_map.specs.Naming.{Each, StreamNames, BodyNames}
 use Rattle.laws_map.specs.Numbers.{below, AreGiven}
 use Rattle.laws_map.proofs.Knowing.{each_has, each_both}
 use Rattle.laws_map.proofs.GivenNumbers.{run_is_given}

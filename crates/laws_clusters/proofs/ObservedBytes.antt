@@ -10,7 +10,7 @@ use Rattle.memtable.specs.Entries.{Entries, put_all}
 use Rattle.replica.specs.Groups.{Group, joined, text}
 use Rattle.model_partition.specs.declared.table_note.TableNote.{TableNote}
 use Rattle.model_partition.specs.declared.table_note.TableNote.TheVariants as tables
-use Rattle.model_partition.specs.Past.{Bytes, stored, table_notes}
+use Rattle.model_partition.specs.Past.{Bytes, stored}
 use Rattle.model_partition.specs.Servers.{told, noted, rows_in, rows_of, entries_shown_in, page_shown, index_shown, part, shown_in}
 use Rattle.model_partition.specs.declared.shown_table.ShownTable.{ShownTable}
 use Rattle.model_histories.specs.IndexContents.{page_in, pages_in, index_in, entries_in}
@@ -24,8 +24,8 @@ use Rattle.model_histories.specs.StreamActions.{PlacedBytes}
 use Rattle.model_histories.specs.ServedTables.{AllStand, IsSeenAs, AreSeenAs}
 use Rattle.model_histories.specs.TableContents.{StandsAt, TellsRightly, AllTellRightly, table_in}
 use Rattle.laws_loads.proofs.Rows.{Ordered, ordered_put, IsCovered, first_rightly, AreShown, rows_say}
-use Rattle.laws_tables.proofs.Others.{others-append}
 use Rattle.laws_server_runs.specs.Places.{IsWithin, AreWithin, PagesWithin, IndexesWithin, TableLaid, TablesWithin}
+use Rattle.laws_clusters.proofs.ServerNotes.{server_notes, served-append}
 use Rattle.laws_clusters.proofs.ShownBytes.{all_tell}
 
 -- ---- bytes that were observed
@@ -197,10 +197,10 @@ module _ (texts : ℕ → Bytes) where
   seen_now seen placed (tables.Done range generation number) all are laid = refl
   seen_now seen placed (tables.Loaded range generation table next) all are laid = (rows_of seen table, refl, table_seen seen (placed range) table all (are range) laid.0)
 
-  table_told : (seen : List Note) (n : TableNote) → table_notes (seen ++ told seen n ∷ []) ≡ table_notes seen ++ told seen n ∷ []
-  table_told seen (tables.Began range generation number changes) = others-append seen _
-  table_told seen (tables.Done range generation number) = others-append seen _
-  table_told seen (tables.Loaded range generation table next) = others-append seen _
+  table_told : (seen : List Note) (n : TableNote) → server_notes (seen ++ told seen n ∷ []) ≡ server_notes seen ++ told seen n ∷ []
+  table_told seen (tables.Began range generation number changes) = served-append seen _
+  table_told seen (tables.Done range generation number) = served-append seen _
+  table_told seen (tables.Loaded range generation table next) = served-append seen _
 
   tables_first : (placed : ℕ → List PlacedBytes) (n : TableNote) (shown : List TableNote) → TablesWithin texts placed (n ∷ shown) → TablesWithin texts placed (n ∷ []) × TablesWithin texts placed shown
   tables_first placed (tables.Began range generation number changes) shown laid = (tt, laid)
@@ -212,13 +212,13 @@ module _ (texts : ℕ → Bytes) where
 
   -- what servers show is seen, behind what was seen before, where their loaded tables point at bytes that were observed
   pub seen_all : (before shown : List TableNote) (seen : List Note) (placed : ℕ → List PlacedBytes) → AllTellRightly texts (noted seen shown) → ((range : ℕ) → AreObserved seen (placed range)) → TablesWithin texts placed shown →
-      AreSeenAs texts before (table_notes seen) → AreSeenAs texts (before ++ shown) (table_notes (noted seen shown))
-  seen_all before [] seen placed all are laid old = subst (λ l. AreSeenAs texts l (table_notes seen)) (sym (append-nil before)) old
+      AreSeenAs texts before (server_notes seen) → AreSeenAs texts (before ++ shown) (server_notes (noted seen shown))
+  seen_all before [] seen placed all are laid old = subst (λ l. AreSeenAs texts l (server_notes seen)) (sym (append-nil before)) old
   seen_all before (n ∷ shown) seen placed all are laid old =
       let note : Note = told seen n in
       let right : AllTellRightly texts seen = before_tells seen (n ∷ shown) all in
       let parts = tables_first placed n shown laid in
-      let one : AreSeenAs texts (before ++ n ∷ []) (table_notes (seen ++ note ∷ [])) =
-      subst (λ l. AreSeenAs texts (before ++ n ∷ []) l) (sym (table_told seen n)) (seen_more before (table_notes seen) n note old (seen_now seen placed n right are parts.0)) in
-      subst (λ l. AreSeenAs texts l (table_notes (noted seen (n ∷ shown)))) (append_assoc before (n ∷ []) shown)
+      let one : AreSeenAs texts (before ++ n ∷ []) (server_notes (seen ++ note ∷ [])) =
+      subst (λ l. AreSeenAs texts (before ++ n ∷ []) l) (sym (table_told seen n)) (seen_more before (server_notes seen) n note old (seen_now seen placed n right are parts.0)) in
+      subst (λ l. AreSeenAs texts l (server_notes (noted seen (n ∷ shown)))) (append_assoc before (n ∷ []) shown)
       (seen_all (before ++ n ∷ []) shown (seen ++ note ∷ []) placed all (λ range. observed_on seen (seen ++ note ∷ []) (kept_first seen note) (placed range) (are range)) parts.1 one)

@@ -2,12 +2,14 @@
 -- extents, and packets that say nothing of streams.
 use Rattle.std.proofs.Common.{◌≡◌, ℕ, zero, suc, ◌-◌, ◌^◌, ◌≤◌, max, Bool, true, false, List, [], ◌∷◌, ◌++◌, map, Option, Some, None, option_map, Contains, slice_set, refl, sym, ap, ◌∙◌, subst, inl, inr, arith, if◌then◌else◌, ◌==◌, nat_lt, append-nil}
 use Rattle.std.proofs.lemmas.Bool.Decides.{nat_tests}
-use Rattle.std.proofs.lemmas.List.Elements.{Contains-append_cases}
+use Rattle.std.proofs.lemmas.List.Elements.{Contains-append_cases, Contains-append_left}
 use Rattle.block_types.specs.declared.record.Nodes.{Nodes}
 use Rattle.wire.specs.declared.actor.ActorId.{ActorId}
 use Rattle.wire.specs.declared.actor.ActorId.TheVariants.{Map, Server}
 use Rattle.wire.specs.declared.actor.ReqNo.{ReqNo}
 use Rattle.wire.specs.declared.body.Body.{Body}
+use Rattle.wire.specs.declared.body.Body.TheVariants as bodies
+use Rattle.wire.specs.declared.body.StreamBody.TheVariants.{MultiModify}
 use Rattle.wire.specs.declared.note.Note.{Note}
 use Rattle.wire.specs.declared.packet.Packet.{Packet}
 use Rattle.wire.specs.declared.refusal.Refusal.{Refusal}
@@ -18,35 +20,38 @@ use Rattle.model_streams.specs.Maps.{entry_at}
 use Rattle.model_streams.specs.Outcome.{packet}
 use Rattle.model_streams.specs.StreamSystem.{StreamSystem, Move, sent_more}
 use Rattle.model_partition.specs.declared.table_note.TableNote.{TableNote}
-use Rattle.model_partition.specs.Past.{table_notes}
+use Rattle.model_partition.specs.Past.{first_range}
 use Rattle.model_histories.specs.ServedTables.{AreSeenAs}
 use Rattle.model_histories.specs.ServerRun.{ServerRun, RangeHistory, RangeEffect, Rests, with_effect, with_outcome, stream_named, after_event, Stops, Starts, Moment}
 use Rattle.model_histories.specs.TableContents.{AllTellRightly}
 use Rattle.model_partition.specs.Servers.{ServerCell, ServersOutcome, with_told, cell_rests, cell_performs, cell_stops, cell_starts, first_pick, at_server, server_stops, server_starts, told_moment}
-use Rattle.model_partition.specs.Cluster.{Cluster, servers_perform}
+use Rattle.model_partition.specs.Cluster.{Cluster, servers_perform, told_by_map}
 use Rattle.model_partition.specs.declared.server_context.ServerContext.{ServerContext}
+use Rattle.model_partition.specs.declared.split_job.SplitJob.{SplitJob}
 use Rattle.model_partition.specs.Range.{RangeState, refuses}
-use Rattle.model_partition.specs.Server.{ServerState, ServerOutcome, range_of, set_range, rests, renew_rule, moment_rule, started}
-use Rattle.model_histories.specs.StreamMachine as extents
+use Rattle.model_partition.specs.Server.{ServerState, ServerOutcome, range_of, split_of, set_range, rests, renew_rule, moment_rule, started}
 use Rattle.model_histories.specs.ServerTurns.{Whole, after_all}
-use Rattle.laws_stream_machine.specs.Refinement.{Sent, asked_number, IsAsked}
-use Rattle.laws_servers.specs.Sending.{MaySend}
+use Rattle.model_histories.specs.ServerTurns as machine
+use Rattle.laws_stream_machine.specs.Refinement.{Sent, IsThere}
 use Rattle.laws_server_runs.specs.Places.{AreAscending}
 use Rattle.laws_server_runs.proofs.RangeLists.{left_here, left_other, ascending_left}
 use Rattle.std.proofs.lemmas.Bool.{cases_eq}
 use Rattle.laws_ranges.specs.Serves.{metadata_of, log_of}
-use Rattle.laws_ranges.proofs.BothStreams.{follows_same}
+use Rattle.laws_ranges.proofs.SplitsKept.{both_same}
 use Rattle.laws_log_reads.proofs.UntouchedReads.{same_left}
 use Rattle.client.specs.Client.{ClientState, awaits}
 use Rattle.laws_clusters.proofs.ClientJobs.{AsksBy}
 use Rattle.laws_clusters.proofs.Copies.{AllSay}
-use Rattle.laws_clusters.proofs.ObservedBytes.{AreObserved}
-use Rattle.laws_clusters.proofs.StreamMachines.{Further, all_told}
+use Rattle.laws_clusters.proofs.ObservedBytes.{AreObserved, observed_on, tells_fewer}
+use Rattle.laws_clusters.proofs.ServerNotes.{server_notes, AreChanges, changes_served}
+use Rattle.laws_clusters.proofs.StreamMachines.{AllAskedOf, Further, told_further}
 use Rattle.laws_clusters.proofs.OtherRanges.{onward_same, holds_on, held_on}
-use Rattle.laws_clusters.proofs.OneRange.{is_range_change, IsWord, AreFirst, word_told, word_changes_none, word_plain, word_unasked}
+use Rattle.laws_clusters.proofs.RangeStreams.{HasStreams, catalog_stays, AreOfSplits, split_stays, AsksOthers, absent_on}
+use Rattle.laws_clusters.proofs.MapWords.{IsWord, AreCounted, AllHave, AreWords, words_of, words_said}
+use Rattle.laws_clusters.proofs.SaidPackets.{AreSaid, said_of, said_sent, said_plain, said_alone, said_list}
 use Rattle.laws_loads.proofs.Entries.{entry_set, entry_other, entry_unmapped}
-use Rattle.laws_clusters.proofs.RequestNumbers.{PastAt, IsPast, AreNumbersPast, past_on, past_step, past_stops, past_starts, past_moment}
-use Rattle.laws_clusters.proofs.Invariant.{Machines, HeldAt, RowsOut, AllRowsOut, AreBeside, here, m_side, l_side, Holds, IsHeld, Runs, Standing}
+use Rattle.laws_clusters.proofs.RequestNumbers.{PastAt, IsPast, used_number, AreNumbersPast, past_on, past_step, past_stops, past_starts, past_moment}
+use Rattle.laws_clusters.proofs.Invariant.{Machines, HeldAt, SplitAt, Waiter, OfRows, OfSeal, OfCall, Waits, AskedBy, Out, AllOut, IsBeside, AreBeside, here, m_side, l_side, Holds, IsHeld, Runs, Standing}
 
 -- ---- servers that run as before
 
@@ -58,14 +63,22 @@ pub record IsSameRange (r k : RangeState) : Type 0 where
 pub record AreSameRanges (xs ys : List (ℕ × RangeState)) : Type 0 where
   pub ascending : AreAscending xs → AreAscending ys
   pub ranges : AreAscending xs → (range : ℕ) (k : RangeState) → range_of ys range ≡ Some k → (r : RangeState) × (range_of xs range ≡ Some r) × IsSameRange r k
+  pub kept : AreAscending xs → (range : ℕ) (r : RangeState) → range_of xs range ≡ Some r → (k : RangeState) × (range_of ys range ≡ Some k)
 
 pub same_ranges : (xs : List (ℕ × RangeState)) → AreSameRanges xs xs
-same_ranges xs = record { ascending = λ a. a; ranges = λ a range k found. (k, found, record { until = k.until; is = refl }) }
+same_ranges xs = record { ascending = λ a. a; ranges = λ a range k found. (k, found, record { until = k.until; is = refl }); kept = λ a range r found. (r, found) }
 
 -- where the lease of one range ends otherwise
-leased : (xs : List (ℕ × RangeState)) (range : ℕ) (r : RangeState) (until : ℕ) → range_of xs range ≡ Some r → AreSameRanges xs (set_range xs range (Some (record r { until = until })))
-leased xs range r until known = record { ascending = ascending_left xs range (Some (record r { until = until })); ranges = all }
+pub leased : (xs : List (ℕ × RangeState)) (range : ℕ) (r : RangeState) (until : ℕ) → range_of xs range ≡ Some r → AreSameRanges xs (set_range xs range (Some (record r { until = until })))
+leased xs range r until known = record { ascending = ascending_left xs range (Some (record r { until = until })); ranges = all; kept = still }
   where
+    still : AreAscending xs → (j : ℕ) (z : RangeState) → range_of xs j ≡ Some z → (k : RangeState) × (range_of (set_range xs range (Some (record r { until = until }))) j ≡ Some k)
+    still a j z found = elim (cases_eq j range) [
+      | inl same ↦
+          (record r { until = until }, subst (λ n. range_of (set_range xs range (Some (record r { until = until }))) n ≡ Some (record r { until = until })) (sym same) (left_here xs range r (Some (record r { until = until })) a known))
+      | inr apart ↦ (z, left_other xs range (Some (record r { until = until })) j apart ∙ found)
+    ]
+
     all : AreAscending xs → (j : ℕ) (k : RangeState) → range_of (set_range xs range (Some (record r { until = until }))) j ≡ Some k → (z : RangeState) × (range_of xs j ≡ Some z) × IsSameRange z k
     all a j k found = elim (cases_eq j range) [
       | inl same ↦
@@ -78,11 +91,11 @@ leased xs range r until known = record { ascending = ascending_left xs range (So
 -- a server that runs has the ranges that it had, or none
 pub data RunsAs (servers : List ServerCell) (s : ℕ) (cell : ServerCell) (st : ServerState) : Type 0 where
   Ran : (old : ServerCell) (was : ServerState) (at : entry_at servers s ≡ Some old) (up : old.state ≡ Some was) (server : st.context.server ≡ was.context.server)
-      (session : st.context.session ≡ was.context.session) (lasts : cell.session ≡ old.session) (ranges : AreSameRanges was.ranges st.ranges) → RunsAs servers s cell st
-  Begun : (server : st.context.server ≡ s) (session : st.context.session ≡ cell.session) (none : st.ranges ≡ []) → RunsAs servers s cell st
+      (session : st.context.session ≡ was.context.session) (lasts : cell.session ≡ old.session) (ranges : AreSameRanges was.ranges st.ranges) (splits : st.splits ≡ was.splits) → RunsAs servers s cell st
+  Begun : (server : st.context.server ≡ s) (session : st.context.session ≡ cell.session) (none : st.ranges ≡ []) (no_split : st.splits ≡ []) → RunsAs servers s cell st
 
 pub still_runs : (servers : List ServerCell) (s : ℕ) (cell : ServerCell) (st : ServerState) → entry_at servers s ≡ Some cell → cell.state ≡ Some st → RunsAs servers s cell st
-still_runs servers s cell st at up = Ran cell st at up refl refl refl (same_ranges st.ranges)
+still_runs servers s cell st at up = Ran cell st at up refl refl refl (same_ranges st.ranges) refl
 
 -- nothing is sent or shown, and of the server all but its nodes for new extents, its moment and its leases stays
 pub record IsQuiet (st : ServerState) (o : ServerOutcome) : Type 0 where
@@ -92,9 +105,10 @@ pub record IsQuiet (st : ServerState) (o : ServerOutcome) : Type 0 where
   pub session : o.after.context.session ≡ st.context.session
   pub count : st.context.count ≤ o.after.context.count
   pub ranges : AreSameRanges st.ranges o.after.ranges
+  pub splits : o.after.splits ≡ st.splits
 
 pub rests_quiet : (st : ServerState) → IsQuiet st (rests st)
-rests_quiet st = record { packets = refl; notes = refl; server = refl; session = refl; count = omega arith; ranges = same_ranges st.ranges }
+rests_quiet st = record { packets = refl; notes = refl; server = refl; session = refl; count = omega arith; ranges = same_ranges st.ranges; splits = refl }
 
 pub renew_quiet : (st : ServerState) (range g until : ℕ) → IsQuiet st (renew_rule st range g until (range_of st.ranges range))
 renew_quiet st range g until = by_range (range_of st.ranges range) refl
@@ -111,6 +125,7 @@ renew_quiet st range g until = by_range (range_of st.ranges range) refl
           session = refl;
           count = omega arith;
           ranges = leased st.ranges range r (max r.until until) found;
+          splits = refl;
         }
         go false = rests_quiet st
 
@@ -144,11 +159,11 @@ module _ (generation : ℕ → ℕ) (nodes target : ℕ) where
   -- ---- ranges
 
   module _ (moves : List Move) (range : ℕ) (x : Machines generation) where
-    holds_same : (h : RangeHistory) (i : ℕ) (r k : RangeState) → IsSameRange r k → Holds generation nodes target moves range x h i r → Holds generation nodes target moves range x h i k
-    holds_same h i r k same b =
-        subst (λ z. Holds generation nodes target moves range x h i z) (sym same.is)
+    holds_same : (h : RangeHistory) (i : ℕ) (job : Option SplitJob) (r k : RangeState) → IsSameRange r k → Holds generation nodes target moves range x h i job r → Holds generation nodes target moves range x h i job k
+    holds_same h i job r k same b =
+        subst (λ z. Holds generation nodes target moves range x h i job z) (sym same.is)
         (record {
-          follows = follows_same generation range (here generation nodes target moves) i (m_side generation x i) (l_side generation x i) r same.until r.gets r.held b.follows;
+          follows = both_same generation range (here generation nodes target moves) i (m_side generation x i) (l_side generation x i) r same.until r.gets r.held job b.follows;
           read = same_left range (here generation nodes target moves) i (after_all Group generation x.m).state (after_all Group generation x.l).state h r (record r { until = same.until })
               (record {
                 said = refl;
@@ -162,19 +177,19 @@ module _ (generation : ℕ → ℕ) (nodes target : ℕ) where
           append = b.append;
         })
 
-    held_same : (h g : RangeHistory) → g ≡ h → (o : Option ℕ) (r k : RangeState) → IsSameRange r k → IsHeld generation nodes target moves range x h o r → IsHeld generation nodes target moves range x g o k
-    held_same h g history o r k same b = record {
+    held_same : (h g : RangeHistory) → g ≡ h → (o : Option ℕ) (job : Option SplitJob) (r k : RangeState) → IsSameRange r k → IsHeld generation nodes target moves range x h o job r → IsHeld generation nodes target moves range x g o job k
+    held_same h g history o job r k same b = record {
       counted = b.counted;
       incarnation = b.incarnation;
       is = b.is;
-      holds = subst (λ y. Holds generation nodes target moves range x y b.incarnation k) (sym history) (holds_same h b.incarnation r k same b.holds);
+      holds = subst (λ y. Holds generation nodes target moves range x y b.incarnation job k) (sym history) (holds_same h b.incarnation job r k same b.holds);
     }
 
   -- ---- servers
 
   pub runs_as : (c : Cluster) (y z : ServerRun) → IsStill y z → (x : Standing generation nodes target c y) (s : ℕ) (cell : ServerCell) (st : ServerState) → RunsAs c.servers s cell st →
       Runs generation nodes target x.moves x.machines (z.history s) (x.incarnation s) s cell st
-  runs_as c y z still x s cell st (Ran old was at up server session lasts ranges) =
+  runs_as c y z still x s cell st (Ran old was at up server session lasts ranges splits) =
       let before : Runs generation nodes target x.moves x.machines (y.history s) (x.incarnation s) s old was = x.servers s old was at up in
       record {
         server = server ∙ before.server;
@@ -182,20 +197,27 @@ module _ (generation : ℕ → ℕ) (nodes target : ℕ) where
         ascending = ranges.ascending before.ascending;
         held = λ range k found.
             (let same = ranges.ranges before.ascending range k found in
-            held_same x.moves range (x.machines range) (y.history s range) (z.history s range) (still.history s range) (x.incarnation s range) same.0 k same.2 (before.held range same.0 same.1));
+            subst (λ job. IsHeld generation nodes target x.moves range (x.machines range) (z.history s range) (x.incarnation s range) job k) (sym (ap (λ l. split_of l range) splits))
+            (held_same x.moves range (x.machines range) (y.history s range) (z.history s range) (still.history s range) (x.incarnation s range) (split_of was.splits range) same.0 k same.2 (before.held range same.0 same.1)));
+        splits_ascending = subst (λ l. AreAscending l) (sym splits) before.splits_ascending;
+        split_held = λ range job found.
+            (let held = before.split_held range job (sym (ap (λ l. split_of l range) splits) ∙ found) in
+            ranges.kept before.ascending range held.0 held.1);
       }
-  runs_as c y z still x s cell st (Begun server session none) = record {
+  runs_as c y z still x s cell st (Begun server session none no_split) = record {
     server = server;
     session = session;
     ascending = subst (λ l. AreAscending l) (sym none) tt;
     held = λ range k found. absurd (let e : None ≡ Some k = sym (ap (λ l. range_of l range) none) ∙ found in cc);
+    splits_ascending = subst (λ l. AreAscending l) (sym no_split) tt;
+    split_held = λ range job found. absurd (let e : None ≡ Some job = sym (ap (λ l. split_of l range) no_split) ∙ found in cc);
   }
 
   -- the same stream system, and the same streams
-  pub rests_as : (c d : Cluster) (y z : ServerRun) (x : Standing generation nodes target c y) → d.stream_layer ≡ c.stream_layer → AreFirst d.map.ranges → ((q : ReqNo) → IsPast c.servers q → IsPast d.servers q) →
+  pub rests_as : (c d : Cluster) (y z : ServerRun) (x : Standing generation nodes target c y) → d.stream_layer ≡ c.stream_layer → AreCounted d.map → AllHave c.stream_layer d.map → ((q : ReqNo) → IsPast c.servers q → IsPast d.servers q) →
       IsStill y z → d.servers ≡ z.servers →
       ((s : ℕ) (cell : ServerCell) (st : ServerState) → entry_at d.servers s ≡ Some cell → cell.state ≡ Some st → RunsAs c.servers s cell st) → Standing generation nodes target d z
-  rests_as c d y z x same first past still cells runs = record {
+  rests_as c d y z x same counted have past still cells runs = record {
     moves = x.moves;
     leads = x.leads ∙ sym same;
     machines = x.machines;
@@ -203,10 +225,13 @@ module _ (generation : ℕ → ℕ) (nodes target : ℕ) where
     distinct = x.distinct;
     past = λ range q has. past q (x.past range q has);
     numbers = λ server to body there q number. past q (x.numbers server to body (subst (λ (v : StreamSystem). Contains v.post (packet (Server server) to body)) same there) q number);
-    rows = all_rows;
-    from_map = λ to body there. x.from_map to body (subst (λ (v : StreamSystem). Contains v.post (packet Map to body)) same there);
-    no_change = λ p there. x.no_change p (subst (λ (v : StreamSystem). Contains v.post p) same there);
-    first_range = first;
+    out = all_out;
+    from_map = λ to body there. subst (λ v. IsWord v body) (sym same) (x.from_map to body (subst (λ (v : StreamSystem). Contains v.post (packet Map to body)) same there));
+    counted = counted;
+    have = subst (λ v. AllHave v d.map) (sym same) have;
+    first = subst (λ v. HasStreams v first_range) (sym same) x.first;
+    there = λ s range k held. subst (λ v. HasStreams v range) (sym same) (let was = held_before s range k held in x.there s range was.0 was.1);
+    lists = subst AreOfSplits (sym same) x.lists;
     incarnation = x.incarnation;
     bound = x.bound;
     own = x.own;
@@ -223,8 +248,8 @@ module _ (generation : ℕ → ℕ) (nodes target : ℕ) where
     observed = λ range. subst (λ ns. AreObserved ns (z.shown range)) (sym notes_same) (subst (λ ps. AreObserved c.stream_layer.notes ps) (sym (still.shown range)) (x.observed range));
     acked = λ range. subst (λ ns. AreObserved ns (z.answered range)) (sym notes_same) (subst (λ ps. AreObserved c.stream_layer.notes ps) (sym (still.answered range)) (x.acked range));
     told = λ texts all.
-        subst (λ shown. AreSeenAs texts shown (table_notes d.stream_layer.notes)) (sym still.notes)
-        (subst (λ ns. AreSeenAs texts y.notes (table_notes ns)) (sym notes_same) (x.told texts (subst (λ ns. AllTellRightly texts ns) notes_same all)));
+        subst (λ shown. AreSeenAs texts shown (server_notes d.stream_layer.notes)) (sym still.notes)
+        (subst (λ ns. AreSeenAs texts y.notes (server_notes ns)) (sym notes_same) (x.told texts (subst (λ ns. AllTellRightly texts ns) notes_same all)));
   }
     where
       -- each range was held before, with the same row data
@@ -232,25 +257,42 @@ module _ (generation : ℕ → ℕ) (nodes target : ℕ) where
       held_before s range k h = go (runs s h.cell h.state h.there h.up)
         where
           go : RunsAs c.servers s h.cell h.state → (r : RangeState) × HeldAt c.servers s range r × IsSameRange r k
-          go (Ran old was at up server session lasts ranges) =
+          go (Ran old was at up server session lasts ranges splits) =
               let before = x.servers s old was at up in
               let was_held = ranges.ranges before.ascending range k h.found in
               (was_held.0, record { cell = old; state = was; there = at; up = up; found = was_held.1 }, was_held.2)
-          go (Begun server session none) = absurd (let e : None ≡ Some k = sym (ap (λ l. range_of l range) none) ∙ h.found in cc)
+          go (Begun server session none no_split) = absurd (let e : None ≡ Some k = sym (ap (λ l. range_of l range) none) ∙ h.found in cc)
 
-      all_rows : AllRowsOut generation d.servers x.machines d.stream_layer.post
-      all_rows s range k h q waits =
-          let was = held_before s range k h in
-          let rows_same : k.rows ≡ was.0.rows = ap (λ (z : RangeState). z.rows) was.2.is in
-          let old : RowsOut generation c.servers x.machines c.stream_layer.post s range was.0 q = x.rows s range was.0 was.1 q (ap (λ (z : ClientState). awaits z.job q) (sym rows_same) ∙ waits) in
+      -- and was split as it is
+      split_before : (s range : ℕ) (job : SplitJob) → SplitAt d.servers s range job → SplitAt c.servers s range job
+      split_before s range job h = go (runs s h.cell h.state h.there h.up)
+        where
+          go : RunsAs c.servers s h.cell h.state → SplitAt c.servers s range job
+          go (Ran old was at up server session lasts ranges splits) = record { cell = old; state = was; there = at; up = up; found = sym (ap (λ l. split_of l range) splits) ∙ h.found }
+          go (Begun server session none no_split) = absurd (let e : None ≡ Some job = sym (ap (λ l. split_of l range) no_split) ∙ h.found in cc)
+
+      rows_are : (s range : ℕ) (k : RangeState) (h : HeldAt d.servers s range k) → k.rows ≡ (held_before s range k h).0.rows
+      rows_are s range k h = ap (λ (z : RangeState). z.rows) (held_before s range k h).2.is
+
+      waits_before : (s range : ℕ) (by : Waiter) (q : ReqNo) → Waits d.servers s range by q → Waits c.servers s range by q
+      waits_before s range OfRows q (k, h, waits) =
+          let was = held_before s range k h in (was.0, was.1, ap (λ (z : ClientState). awaits z.job q) (sym (rows_are s range k h)) ∙ waits)
+      waits_before s range OfSeal q (job, h, waits) = (job, split_before s range job h, waits)
+      waits_before s range OfCall q (job, h, waits) = (job, split_before s range job h, waits)
+
+      asks_on : (s range : ℕ) (by : Waiter) (body : Body) → AskedBy c.servers s range by body → AskedBy d.servers s range by body
+      asks_on s range OfRows body asks = λ k h. (let was = held_before s range k h in subst (λ z. AsksBy z body) (sym (rows_are s range k h)) (asks was.0 was.1))
+      asks_on s range OfSeal body asks = tt
+      asks_on s range OfCall body asks = λ job h. asks job (split_before s range job h)
+
+      all_out : AllOut generation d.servers x.machines d.stream_layer.post
+      all_out s range by q waits =
+          let old : Out generation c.servers x.machines c.stream_layer.post s range by q = x.out s range by q (waits_before s range by q waits) in
           record {
             past = past q old.past;
             none = old.none;
-            asked = λ server to body at number.
-                subst (λ z. AsksBy z body) (sym rows_same) (old.asked server to body (subst (λ (v : StreamSystem). Contains v.post (packet (Server server) to body)) same at) number);
-            alone = λ t n other there other_waits.
-                (let before = held_before t n other there in
-                old.alone t n before.0 before.1 (ap (λ (z : RangeState). awaits z.rows.job q) (sym before.2.is) ∙ other_waits));
+            asked = λ server to body at number. asks_on s range by body (old.asked server to body (subst (λ (v : StreamSystem). Contains v.post (packet (Server server) to body)) same at) number);
+            alone = λ t n other too. old.alone t n other (waits_before t n other q too);
           }
 
       notes_same : d.stream_layer.notes ≡ c.stream_layer.notes
@@ -274,7 +316,7 @@ module _ (generation : ℕ → ℕ) (nodes target : ℕ) where
     pub one_stands : (w : StreamSystem) (y z : ServerRun) → w ≡ c.stream_layer → IsStill y z → z.servers ≡ slice_set c.servers (s - 1) next → Standing generation nodes target c y →
         Standing generation nodes target (record c { stream_layer = w; servers = slice_set c.servers (s - 1) next }) z
     one_stands w y z same still cells x =
-        rests_as c (record c { stream_layer = w; servers = slice_set c.servers (s - 1) next }) y z x same x.first_range (past_on c.servers s cell next at past) still (sym cells) all_run
+        rests_as c (record c { stream_layer = w; servers = slice_set c.servers (s - 1) next }) y z x same x.counted x.have (past_on c.servers s cell next at past) still (sym cells) all_run
 
   -- an event of a cluster, and the run of its servers after it
   abbrev pub StandsAfter : Cluster → ServerRun → ServersOutcome → Type 0
@@ -283,7 +325,7 @@ module _ (generation : ℕ → ℕ) (nodes target : ℕ) where
   -- there is no such server
   pub nobody_stands : (c : Cluster) (y : ServerRun) → Standing generation nodes target c y → StandsAfter c y (record { servers = c.servers; packets = []; notes = [] })
   nobody_stands c y x =
-      rests_as c (record c { stream_layer = with_told c.stream_layer [] [] }) y (with_outcome y (record { servers = c.servers; packets = []; notes = [] })) x (told_nothing c.stream_layer) x.first_range (λ q p. p)
+      rests_as c (record c { stream_layer = with_told c.stream_layer [] [] }) y (with_outcome y (record { servers = c.servers; packets = []; notes = [] })) x (told_nothing c.stream_layer) x.counted x.have (λ q p. p)
       (still_done y c.servers [] [] refl) refl (still_runs c.servers)
 
   -- what the server of a number does, if there is one
@@ -322,7 +364,7 @@ module _ (generation : ℕ → ℕ) (nodes target : ℕ) where
           RunsAs c.servers s (if b then record { session = suc cell.session; state = Some (started s (suc cell.session) now first_pick batch) } else cell) st
       go cell st at none true up =
           let same : started s (suc cell.session) now first_pick batch ≡ st = cc in
-          subst (λ z. RunsAs c.servers s (record { session = suc cell.session; state = Some (started s (suc cell.session) now first_pick batch) }) z) same (Begun refl refl refl)
+          subst (λ z. RunsAs c.servers s (record { session = suc cell.session; state = Some (started s (suc cell.session) now first_pick batch) }) z) same (Begun refl refl refl refl)
       go cell st at none false up = still_runs c.servers s cell st at up
 
       by_state : (cell : ServerCell) (st : ServerState) → entry_at c.servers s ≡ Some cell → (o : Option ServerState) → cell.state ≡ o → (cell_starts s now batch cell o).state ≡ Some st →
@@ -336,7 +378,7 @@ module _ (generation : ℕ → ℕ) (nodes target : ℕ) where
   pub moment_stands : (c : Cluster) (y : ServerRun) (now : ℕ) → Standing generation nodes target c y →
       Standing generation nodes target (record c { now = now; servers = map (told_moment now) c.servers }) (after_event y (Moment now))
   moment_stands c y now x =
-      rests_as c (record c { now = now; servers = map (told_moment now) c.servers }) y (after_event y (Moment now)) x refl x.first_range (past_moment c.servers now)
+      rests_as c (record c { now = now; servers = map (told_moment now) c.servers }) y (after_event y (Moment now)) x refl x.counted x.have (past_moment c.servers now)
       (still_here y (map (told_moment now) y.servers)) (ap (map (told_moment now)) x.cells) runs
     where
       by_state : (s : ℕ) (cell : ServerCell) (st : ServerState) → entry_at c.servers s ≡ Some cell → (o : Option ServerState) → cell.state ≡ o → option_map (λ server. moment_rule server now) o ≡ Some st →
@@ -344,7 +386,7 @@ module _ (generation : ℕ → ℕ) (nodes target : ℕ) where
       by_state s cell st at None is up = absurd cc
       by_state s cell st at (Some was) is up =
           let same : moment_rule was now ≡ st = cc in
-          subst (λ z. RunsAs c.servers s (told_moment now cell) z) same (Ran cell was at is refl refl refl (same_ranges was.ranges))
+          subst (λ z. RunsAs c.servers s (told_moment now cell) z) same (Ran cell was at is refl refl refl (same_ranges was.ranges) refl)
 
       runs : (s : ℕ) (cell : ServerCell) (st : ServerState) → entry_at (map (told_moment now) c.servers) s ≡ Some cell → cell.state ≡ Some st → RunsAs c.servers s cell st
       runs s cell st at up =
@@ -355,14 +397,14 @@ module _ (generation : ℕ → ℕ) (nodes target : ℕ) where
 
   module _ (c : Cluster) (s : ℕ) (cell : ServerCell) (st : ServerState) (at : entry_at c.servers s ≡ Some cell) (is : cell.state ≡ Some st) where
     module _ (after : ServerState) (server : after.context.server ≡ st.context.server) (session : after.context.session ≡ st.context.session) (count : st.context.count ≤ after.context.count)
-        (ranges : AreSameRanges st.ranges after.ranges) where
+        (ranges : AreSameRanges st.ranges after.ranges) (splits : after.splits ≡ st.splits) where
       same_past : (n k : ℕ) → PastAt cell n k → PastAt (record cell { state = Some after }) n k
       same_past =
           past_step cell (record cell { state = Some after }) refl
           (λ z e. (st, is, (let same : after ≡ z = cc in subst (λ (y : ServerState). st.context.count ≤ y.context.count) same count)))
 
       same_runs : (z : ServerState) → Some after ≡ Some z → RunsAs c.servers s (record cell { state = Some after }) z
-      same_runs z e = let same : after ≡ z = cc in subst (λ y. RunsAs c.servers s (record cell { state = Some after }) y) same (Ran cell st at is server session refl ranges)
+      same_runs z e = let same : after ≡ z = cc in subst (λ y. RunsAs c.servers s (record cell { state = Some after }) y) same (Ran cell st at is server session refl ranges splits)
 
       same_system_stands : (w : StreamSystem) (y z : ServerRun) → w ≡ c.stream_layer → IsStill y z → z.servers ≡ slice_set c.servers (s - 1) (record cell { state = Some after }) →
           Standing generation nodes target c y → Standing generation nodes target (record c { stream_layer = w; servers = slice_set c.servers (s - 1) (record cell { state = Some after }) }) z
@@ -374,13 +416,13 @@ module _ (generation : ℕ → ℕ) (nodes target : ℕ) where
     -- other nodes for new extents
     pub picks_stand : (pick : Nodes) (y : ServerRun) → Standing generation nodes target c y → Standing generation nodes target (record c { servers = picked_servers pick }) (record y { servers = picked_servers pick })
     picks_stand pick y x =
-        same_system_stands (record st { context = record st.context { pick = pick } }) refl refl (omega arith) (same_ranges st.ranges) c.stream_layer y (record y { servers = picked_servers pick }) refl
+        same_system_stands (record st { context = record st.context { pick = pick } }) refl refl (omega arith) (same_ranges st.ranges) refl c.stream_layer y (record y { servers = picked_servers pick }) refl
         (still_here y (picked_servers pick)) refl x
 
     -- a rule that sends and shows nothing
     pub quiet_stands : (o : ServerOutcome) → IsQuiet st o → (y : ServerRun) → Standing generation nodes target c y → Standing generation nodes target (rule_done c s cell o) (run_done c y s cell Rests o)
     quiet_stands o q y x =
-        same_system_stands o.after q.server q.session q.count q.ranges (with_told c.stream_layer o.packets o.notes) y (run_done c y s cell Rests o)
+        same_system_stands o.after q.server q.session q.count q.ranges q.splits (with_told c.stream_layer o.packets o.notes) y (run_done c y s cell Rests o)
         (ap (λ ps. with_told c.stream_layer ps o.notes) q.packets ∙ ap (λ ns. with_told c.stream_layer [] ns) q.notes ∙ told_nothing c.stream_layer)
         (still_done y (slice_set c.servers (s - 1) (cell_performs cell o).cell) o.packets o.notes q.notes) refl x
 
@@ -388,16 +430,17 @@ module _ (generation : ℕ → ℕ) (nodes target : ℕ) where
         Standing generation nodes target (rule_done c s cell (renew_rule st range g until (range_of st.ranges range))) (run_done c y s cell Rests (renew_rule st range g until (range_of st.ranges range)))
     renew_stands range g until y x = quiet_stands (renew_rule st range g until (range_of st.ranges range)) (renew_quiet st range g until) y x
 
-  -- ---- packets that say nothing of streams
+  -- ---- packets that leave streams as they are
 
-  module _ (c : Cluster) (y : ServerRun) (x : Standing generation nodes target c y) (p : Packet) (may : MaySend p)
-      (plain : (name : StreamName) (m : extents.MachineState Group) (sent : List Sent) → IsAsked generation name (here generation nodes target x.moves) m sent p.body)
-      (unasked : (q : ReqNo) → asked_number p.body ≡ Some q → ⊥) (word : p.from ≡ Map → IsWord p.body) (none : is_range_change p.body ≡ false) where
+  module _ (c : Cluster) (y : ServerRun) (x : Standing generation nodes target c y) (ps : List Packet) (are : AreSaid c.stream_layer ps)
+      (none_asked : (server : ℕ) (to : ActorId) (body : Body) → Contains ps (packet (Server server) to body) → (q : ReqNo) → used_number body ≡ Some q → ⊥)
+      (words : (to : ActorId) (body : Body) → Contains ps (packet Map to body) → IsWord c.stream_layer body) (notes : List Note)
+      (changes : AreChanges notes) where
     abbrev w : StreamSystem
     w = here generation nodes target x.moves
 
-    told : Further generation nodes target x.moves (with_told w (p ∷ []) []) (p ∷ [])
-    told = all_told generation nodes target x.moves (p ∷ []) [] (may, tt)
+    told : Further generation nodes target x.moves (told_by_map w ps notes) ps
+    told = told_further generation nodes target x.moves ps notes (said_sent c.stream_layer ps are) changes
 
     abbrev later : List Move
     later = x.moves ++ told.after
@@ -405,53 +448,71 @@ module _ (generation : ℕ → ℕ) (nodes target : ℕ) where
     same_catalog : (here generation nodes target later).catalog ≡ w.catalog
     same_catalog = ap (λ (z : StreamSystem). z.catalog) told.leads
 
-    same_notes : (note : Note) → Contains w.notes note → Contains (here generation nodes target later).notes note
-    same_notes note there = subst (λ (z : StreamSystem). Contains z.notes note) (sym told.leads) there
+    all_notes : (note : Note) → Contains w.notes note → Contains (here generation nodes target later).notes note
+    all_notes note there = subst (λ (z : StreamSystem). Contains z.notes note) (sym told.leads) (Contains-append_left w.notes notes note there)
 
-    only_one : (q : Packet) → Contains (p ∷ []) q → p ≡ q
-    only_one q (zero, less, is) = is
-    only_one q (suc k, less, is) = absurd (omega arith)
+    all_plain : (name : StreamName) → IsThere w name → (m : Whole Group generation) (sent : List Sent) (packets : List Packet) → AreSaid c.stream_layer packets → AllAskedOf generation nodes target name w m sent packets
+    all_plain name there m sent [] each = tt
+    all_plain name there m sent (p ∷ packets) each = (said_plain generation c.stream_layer w p each.0 name there m.state sent, all_plain name there m sent packets each.1)
+
+    -- no server asks for anything
+    asks_others : (name : StreamName) → AsksOthers name w (here generation nodes target later)
+    asks_others name server to body there =
+        elim (Contains-append_cases w.post ps (packet (Server server) to body) (subst (λ (z : StreamSystem). Contains z.post (packet (Server server) to body)) told.leads there)) [
+          | inl old ↦ inl old
+          | inr now ↦ inr (said_alone c.stream_layer name (packet (Server server) to body) (said_of c.stream_layer ps are (packet (Server server) to body) now))
+        ]
+
+    one_beside : (name : StreamName) (done : List (machine.Move Group generation)) (sent : List Sent) → IsBeside generation nodes target x.moves name done sent → IsBeside generation nodes target later name done sent
+    one_beside name done sent (inl stream) = inl (record {
+      there = catalog_stays w (here generation nodes target later) same_catalog name stream.there;
+      below = told.below name (after_all Group generation done) sent (all_plain name stream.there (after_all Group generation done) sent ps are) stream.below;
+    })
+    one_beside name done sent (inr to_be) =
+        inr (record { absent = absent_on name w (here generation nodes target later) same_catalog (asks_others name) to_be.absent; none_done = to_be.none_done; none_sent = to_be.none_sent })
 
     still_beside : (range : ℕ) → AreBeside generation nodes target later range (x.machines range)
     still_beside range =
         let old : AreBeside generation nodes target x.moves range (x.machines range) = x.beside range in
-        let m : Whole Group generation = after_all Group generation (x.machines range).m in
-        let l : Whole Group generation = after_all Group generation (x.machines range).l in
         record {
           m_are = old.m_are;
           l_are = old.l_are;
           apart = old.apart;
-          metadata = λ counted. told.below (metadata_of range) m (x.machines range).m_sent (plain (metadata_of range) m.state (x.machines range).m_sent, tt) (old.metadata counted);
-          log = λ counted. told.below (log_of range) l (x.machines range).l_sent (plain (log_of range) l.state (x.machines range).l_sent, tt) (old.log counted);
+          metadata = λ counted. one_beside (metadata_of range) (x.machines range).m (x.machines range).m_sent (old.metadata counted);
+          log = λ counted. one_beside (log_of range) (x.machines range).l (x.machines range).l_sent (old.log counted);
         }
 
-    still_numbers : AreNumbersPast c.servers (c.stream_layer.post ++ p ∷ [])
-    still_numbers server to body there q number = elim (Contains-append_cases c.stream_layer.post (p ∷ []) (packet (Server server) to body) there) [
+    still_numbers : AreNumbersPast c.servers (c.stream_layer.post ++ ps)
+    still_numbers server to body there q number = elim (Contains-append_cases c.stream_layer.post ps (packet (Server server) to body) there) [
       | inl old ↦ x.numbers server to body old q number
-      | inr now ↦ absurd (unasked q (ap (λ (z : Packet). asked_number z.body) (only_one (packet (Server server) to body) now) ∙ number))
+      | inr now ↦ absurd (none_asked server to body now q number)
     ]
 
-    still_from_map : (other : ActorId) (body : Body) → Contains (c.stream_layer.post ++ p ∷ []) (packet Map other body) → IsWord body
-    still_from_map other body there = elim (Contains-append_cases c.stream_layer.post (p ∷ []) (packet Map other body) there) [
+    still_from_map : (other : ActorId) (body : Body) → Contains (c.stream_layer.post ++ ps) (packet Map other body) → IsWord c.stream_layer body
+    still_from_map other body there = elim (Contains-append_cases c.stream_layer.post ps (packet Map other body) there) [
       | inl old ↦ x.from_map other body old
-      | inr now ↦ (let same : p ≡ packet Map other body = only_one (packet Map other body) now in subst (λ (z : Packet). IsWord z.body) same (word (ap (λ (z : Packet). z.from) same)))
+      | inr now ↦ words other body now
     ]
 
-    still_no_change : (q : Packet) → Contains (c.stream_layer.post ++ p ∷ []) q → is_range_change q.body ≡ false
-    still_no_change q there = elim (Contains-append_cases c.stream_layer.post (p ∷ []) q there) [
-      | inl old ↦ x.no_change q old
-      | inr now ↦ subst (λ (z : Packet). is_range_change z.body ≡ false) (only_one q now) none
-    ]
+    still_lists : AreOfSplits (told_by_map c.stream_layer ps notes)
+    still_lists server to list q there m among =
+        split_stays c.stream_layer (told_by_map c.stream_layer ps notes) (λ n stands. stands) list (elim (Contains-append_cases c.stream_layer.post ps asks there) [
+          | inl old ↦ x.lists server to list q old m among
+          | inr now ↦ said_list c.stream_layer asks (said_of c.stream_layer ps are asks now) list q refl
+        ])
+      where
+        asks : Packet
+        asks = packet (Server server) to (bodies.Stream (MultiModify list q))
 
-    still_rows : AllRowsOut generation c.servers x.machines (c.stream_layer.post ++ p ∷ [])
-    still_rows s range r h q waits =
-        let old : RowsOut generation c.servers x.machines c.stream_layer.post s range r q = x.rows s range r h q waits in
+    still_out : AllOut generation c.servers x.machines (c.stream_layer.post ++ ps)
+    still_out s range by q waits =
+        let old : Out generation c.servers x.machines c.stream_layer.post s range by q = x.out s range by q waits in
         record {
           past = old.past;
           none = old.none;
-          asked = λ server to body at number. elim (Contains-append_cases c.stream_layer.post (p ∷ []) (packet (Server server) to body) at) [
+          asked = λ server to body at number. elim (Contains-append_cases c.stream_layer.post ps (packet (Server server) to body) at) [
             | inl earlier ↦ old.asked server to body earlier number
-            | inr now ↦ absurd (unasked q (ap (λ (z : Packet). asked_number z.body) (only_one (packet (Server server) to body) now) ∙ number))
+            | inr now ↦ absurd (none_asked server to body now q number)
           ];
           alone = old.alone;
         }
@@ -464,26 +525,38 @@ module _ (generation : ℕ → ℕ) (nodes target : ℕ) where
           session = before.session;
           ascending = before.ascending;
           held = λ range r found.
-              held_on generation nodes target range x.moves later (x.machines range) (x.machines range) (y.history s range) (y.history s range) refl (x.incarnation s range) (x.incarnation s range) refl r
+              held_on generation nodes target range x.moves later (x.machines range) (x.machines range) (y.history s range) (y.history s range) refl (x.incarnation s range) (x.incarnation s range) refl (split_of st.splits range) r
               (λ j mine h.
-              holds_on generation nodes target range x.moves later (x.machines range) (x.machines range) (onward_same generation nodes target range x.moves later (x.machines range) same_catalog same_notes) j (refl, refl)
-              (y.history s range) r (λ q waits. (x.rows s range r (record { cell = cell; state = st; there = at; up = up; found = found }) q waits).none range) h) (before.held range r found);
+              holds_on generation nodes target range x.moves later (x.machines range) (x.machines range) (onward_same generation nodes target range x.moves later (x.machines range) same_catalog all_notes) j (refl, refl)
+              (y.history s range) (split_of st.splits range) r (λ q waits. (x.out s range OfRows q (r, record { cell = cell; state = st; there = at; up = up; found = found }, waits)).none tt range)
+              (λ job is q sealing. (x.out s range OfSeal q (job, record { cell = cell; state = st; there = at; up = up; found = is }, sealing)).none tt range) h) (before.held range r found);
+          splits_ascending = before.splits_ascending;
+          split_held = before.split_held;
         }
 
-    -- one is sent
-    pub says_stands : Standing generation nodes target (record c { stream_layer = sent_more c.stream_layer (p ∷ []) }) y
+    abbrev more : List Note
+    more = c.stream_layer.notes ++ notes
+
+    kept_notes : (note : Note) → Contains c.stream_layer.notes note → Contains more note
+    kept_notes note there = Contains-append_left c.stream_layer.notes notes note there
+
+    -- they are sent, and splits and merges are shown
+    pub says_stands : Standing generation nodes target (record c { stream_layer = told_by_map c.stream_layer ps notes }) y
     says_stands = record {
       moves = later;
-      leads = told.leads ∙ ap (λ z. sent_more z (p ∷ [])) x.leads;
+      leads = told.leads ∙ ap (λ z. told_by_map z ps notes) x.leads;
       machines = x.machines;
       beside = still_beside;
       distinct = x.distinct;
       past = x.past;
       numbers = still_numbers;
-      rows = still_rows;
+      out = still_out;
       from_map = still_from_map;
-      no_change = still_no_change;
-      first_range = x.first_range;
+      counted = x.counted;
+      have = x.have;
+      first = x.first;
+      there = x.there;
+      lists = still_lists;
       incarnation = x.incarnation;
       bound = x.bound;
       own = x.own;
@@ -493,19 +566,29 @@ module _ (generation : ℕ → ℕ) (nodes target : ℕ) where
       servers = still_stands;
       stories = x.stories;
       says = x.says;
-      observed = x.observed;
-      acked = x.acked;
-      told = x.told;
+      observed = λ range. observed_on c.stream_layer.notes more kept_notes (y.shown range) (x.observed range);
+      acked = λ range. observed_on c.stream_layer.notes more kept_notes (y.answered range) (x.acked range);
+      told = λ texts all.
+          subst (λ ns. AreSeenAs texts y.notes ns) (sym (changes_served c.stream_layer.notes notes changes)) (x.told texts (tells_fewer texts c.stream_layer.notes more kept_notes all));
     }
 
-  -- the map tells servers of leases
-  pub map_says_stands : (c : Cluster) (y : ServerRun) → Standing generation nodes target c y → (to : ActorId) (body : Body) → IsWord body →
-      Standing generation nodes target (record c { stream_layer = sent_more c.stream_layer (packet Map to body ∷ []) }) y
-  map_says_stands c y x to body word =
-      says_stands c y x (packet Map to body) (inr (word_told body word)) (λ name m sent. word_plain generation (here generation nodes target x.moves) body word name m sent) (word_unasked body word) (λ from. word)
-      (word_changes_none body word)
+  -- what the map tells and shows
+  pub map_says_stands : (c : Cluster) (y : ServerRun) → Standing generation nodes target c y → (ps : List Packet) → AreWords c.stream_layer ps → (notes : List Note) → AreChanges notes →
+      Standing generation nodes target (record c { stream_layer = told_by_map c.stream_layer ps notes }) y
+  map_says_stands c y x ps words notes changes = says_stands c y x ps (words_said c.stream_layer ps words)
+      (λ server to body there q number. (let z : Server server ≡ Map = (words_of c.stream_layer ps words (packet (Server server) to body) there).0 in absurd cc)) (λ to body there. (words_of c.stream_layer ps words (packet Map to body) there).1) notes changes
 
   -- a server refuses what a user asks
   pub refuses_stands : (c : Cluster) (y : ServerRun) → Standing generation nodes target c y → (d : ServerContext) (to : ActorId) (q : ReqNo) (why : Refusal) →
       Standing generation nodes target (record c { stream_layer = sent_more c.stream_layer (refuses d to q why ∷ []) }) y
-  refuses_stands c y x d to q why = says_stands c y x (refuses d to q why) (inr refl) (λ name m sent. tt) (λ v number. absurd cc) (λ from. absurd cc) refl
+  refuses_stands c y x d to q why =
+      subst (λ ns. Standing generation nodes target (record c { stream_layer = record c.stream_layer { post = c.stream_layer.post ++ refuses d to q why ∷ []; notes = ns } }) y) (append-nil c.stream_layer.notes)
+      (says_stands c y x (refuses d to q why ∷ []) (inl refl, tt) none_used (λ receiver body there. absurd (not_map receiver body there)) [] tt)
+    where
+      not_map : (receiver : ActorId) (body : Body) → Contains (refuses d to q why ∷ []) (packet Map receiver body) → ⊥
+      not_map receiver body (zero, less, is) = let z : Server d.server ≡ Map = ap (λ (p : Packet). p.from) is in cc
+      not_map receiver body (suc k, less, is) = omega (arith, less)
+
+      none_used : (server : ℕ) (receiver : ActorId) (body : Body) → Contains (refuses d to q why ∷ []) (packet (Server server) receiver body) → (v : ReqNo) → used_number body ≡ Some v → ⊥
+      none_used server receiver body (zero, less, is) v number = let z : None ≡ Some v = ap (λ (p : Packet). used_number p.body) is ∙ number in cc
+      none_used server receiver body (suc k, less, is) v number = omega (arith, less)

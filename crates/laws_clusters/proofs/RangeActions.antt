@@ -38,7 +38,7 @@ use Rattle.model_histories.specs.ServerRun.{RangeHistory, ServerRun, place_numbe
 use Rattle.model_histories.specs.Story.{Story, StreamEvent, Made, Showed, event_at}
 use Rattle.model_histories.specs.StreamActions.{ExtentRead, StreamAction, Reads, Forms, Stands, Shows, Finds, Stores, group_of, formed, transact_actions, last_position, stood, serving_actions, loading_actions, confirmed_actions, load_actions, record_group, record_stood_in, record_stood, record_actions, metadata_actions, index_stood_in, index_stood, rows_told_actions, rows_actions, bytes_told_actions, bytes_actions, answer_actions, PlacedBytes}
 use Rattle.laws_loads.specs.RangeView.{RangeView, view_after, view_after_all}
-use Rattle.laws_log_reads.specs.Reads.{SaysCheckpoint, IsShown, AllShown}
+use Rattle.laws_log_reads.specs.Reads.{SaysOneRegion, IsShown, AllShown}
 use Rattle.laws_clusters.proofs.CheckpointRecords.{record_says}
 use Rattle.laws_clusters.proofs.Copies.{AllSay}
 use Rattle.laws_clusters.proofs.ObservedBytes.{IsObserved, AsContent, AsSeen, AsAcked, AreObserved, observed_both}
@@ -78,9 +78,9 @@ none_there stories a b event other = go (is_stream a b) refl
 abbrev pub IsEither : StreamKind → Type 0
 IsEither kind = (kind ≡ kinds.Metadata) ⊎ (kind ≡ kinds.Log)
 
--- what is formed of the metadata says a checkpoint
+-- what is formed of the metadata leaves one region
 abbrev pub IsFormed : StreamKind → Group → Type 0
-IsFormed kind group = ((kind ≡ kinds.Metadata) × SaysCheckpoint group) ⊎ (kind ≡ kinds.Log)
+IsFormed kind group = ((kind ≡ kinds.Metadata) × SaysOneRegion group) ⊎ (kind ≡ kinds.Log)
 
 abbrev pub IsOnEither : StreamAction → Type 0
 IsOnEither (Forms kind group) = IsFormed kind group
@@ -91,7 +91,7 @@ abbrev pub AreOnEither : List StreamAction → Type 0
 AreOnEither [] = Unit {0}
 AreOnEither (action ∷ earlier) = IsOnEither action × AreOnEither earlier
 
-on_both : (xs ys : List StreamAction) → AreOnEither xs → AreOnEither ys → AreOnEither (xs ++ ys)
+pub on_both : (xs ys : List StreamAction) → AreOnEither xs → AreOnEither ys → AreOnEither (xs ++ ys)
 on_both [] ys a b = b
 on_both (x ∷ xs) ys a b = (a.0, on_both xs ys a.1 b)
 
@@ -212,11 +212,11 @@ module _ (server range generation : ℕ) where
 
 -- ---- what is formed of the metadata
 
--- one more event, which forms nothing or what says a checkpoint
-say_more : (e : StreamEvent Group) (story : Story Group) → ((g : ℕ) (group : Group) → e ≡ Made g group → SaysCheckpoint group) → AllSay story → AllSay (e ∷ story)
+-- one more event, which forms nothing or what leaves one region
+say_more : (e : StreamEvent Group) (story : Story Group) → ((g : ℕ) (group : Group) → e ≡ Made g group → SaysOneRegion group) → AllSay story → AllSay (e ∷ story)
 say_more e story says all n g group at = go (n == length story) at
   where
-    go : (b : Bool) → (if b then Some e else event_at story n) ≡ Some (Made g group) → SaysCheckpoint group
+    go : (b : Bool) → (if b then Some e else event_at story n) ≡ Some (Made g group) → SaysOneRegion group
     go true t = let same : e ≡ Made g group = cc in says g group same
     go false t = all n g group t
 
@@ -226,7 +226,7 @@ module _ (generation : ℕ) where
 
   action_says : (v : RangeView) (action : StreamAction) → IsOnEither action → Says v → Says (view_after generation v action)
   action_says v (Reads kind read) on all = all
-  action_says v (Forms kinds.Metadata group) (inl on) all = say_more (Made generation group) (v.story kinds.Metadata) (λ g other same. (let one : group ≡ other = cc in subst SaysCheckpoint one on.1)) all
+  action_says v (Forms kinds.Metadata group) (inl on) all = say_more (Made generation group) (v.story kinds.Metadata) (λ g other same. (let one : group ≡ other = cc in subst SaysOneRegion one on.1)) all
   action_says v (Forms kinds.Metadata group) (inr on) all = absurd cc
   action_says v (Forms kinds.Log group) on all = all
   action_says v (Forms kinds.RowData group) on all = all
@@ -239,7 +239,7 @@ module _ (generation : ℕ) where
   action_says v (Finds found) on all = all
   action_says v (Stores stored) on all = all
 
-  -- what is formed says checkpoints
+  -- what is formed leaves one region
   pub actions_say : (v : RangeView) (actions : List StreamAction) → AreOnEither actions → Says v → Says (view_after_all generation v actions)
   actions_say v [] on all = all
   actions_say v (action ∷ earlier) on all = action_says (view_after_all generation v earlier) action on.0 (actions_say v earlier on.1 all)

@@ -20,6 +20,8 @@ use Rattle.model_partition.specs.declared.server_context.ServerContext.{ServerCo
 use Rattle.model_partition.specs.Answering.{answered_number, is_answerer, answer_rule, give_up_all}
 use Rattle.model_partition.specs.Cluster.{Cluster}
 use Rattle.model_partition.specs.Getting.{get_rule}
+use Rattle.model_partition.specs.declared.split_job.SplitJob.{SplitJob}
+use Rattle.model_partition.specs.Splits.{SplitStep}
 use Rattle.model_partition.specs.Range.{RangeState, RangeOutcome, request, picking, is_serving}
 use Rattle.model_partition.specs.Server.{new_range}
 use Rattle.model_histories.specs.ServerRun.{ServerRun, first_history, stream_named, bytes_read}
@@ -31,12 +33,14 @@ use Rattle.laws_loads.specs.RangeView.{RangeView, view_after_all}
 use Rattle.laws_stream_machine.specs.Refinement.{Means, asked_number, extents_of}
 use Rattle.laws_stream_machine.proofs.LowerLayer.{Below, below_made, below_index, below_alone}
 use Rattle.laws_ranges.specs.Seen.{LoadIsRead, RuleSees}
-use Rattle.laws_ranges.specs.Serves.{Side, metadata_of, log_of, rows_of, IsOfRows, IsPastRows, BeginsRightly, BothListed, IsCounted, IsConfirming, IsServing, StageIs, IsSentBy}
+use Rattle.laws_ranges.specs.Serves.{Side, metadata_of, log_of, rows_of, IsOfRows, IsPastRows, BeginsRightly, BothListed, IsCounted, IsConfirming, IsServing, StageIs, Follows, FollowsIf, IsSentBy}
+use Rattle.laws_ranges.specs.SplitJobs.{FollowsBothIf, SplitSees}
+use Rattle.laws_ranges.proofs.SplitSteps.{rule_split}
 use Rattle.laws_ranges.proofs.BothStreamsAtOnce.{taken}
 use Rattle.laws_ranges.proofs.SeenRules.{assigned_sees, transact_sees, get_sees, give_up_sees, checkpoint_sees, answer_sees}
 use Rattle.laws_ranges.proofs.Stages.{serving_only}
 use Rattle.laws_ranges.proofs.TurnsAsMoves.{is_counted}
-use Rattle.laws_log_reads.specs.Reads.{HasRead, RuleReads, StandsOnce, IsSized}
+use Rattle.laws_log_reads.specs.Reads.{HasRead, HasReadIf, RuleReads, StandsOnce, IsSized}
 use Rattle.laws_log_reads.proofs.AnswerRules.{answer_left}
 use Rattle.laws_log_reads.proofs.OneScript.{stands_once, all_sized}
 use Rattle.laws_log_reads.proofs.OtherRules.{new_read, get_left, give_up_left, transact_left, checkpoint_left}
@@ -44,9 +48,11 @@ use Rattle.laws_log_reads.proofs.ReadCopies.{load_is_read, begins_rightly, reads
 use Rattle.laws_log_reads.proofs.ToldIsShown.{shows_now}
 use Rattle.laws_clusters.proofs.AckedAppends.{out_acked, record_acked}
 use Rattle.laws_clusters.proofs.ClientJobs.{AsksBy}
-use Rattle.laws_clusters.proofs.Copies.{AllSay, has_checkpoints}
-use Rattle.laws_clusters.proofs.RowAnswers.{rows_told, rows_acked, bytes_seen}
-use Rattle.laws_clusters.proofs.Invariant.{Machines, AreBeside, here, m_side, l_side, Holds, Standing}
+use Rattle.laws_clusters.proofs.Copies.{AllSay, has_one_region}
+use Rattle.laws_clusters.proofs.RowAnswers.{load_number, rows_told, rows_acked, bytes_seen}
+use Rattle.laws_clusters.proofs.Invariant.{Machines, AreBeside, there_below, here, m_side, l_side, Standing}
+use Rattle.laws_clusters.proofs.MapWords.{IsFounded}
+use Rattle.laws_clusters.proofs.RangeStreams.{HasStreams}
 use Rattle.laws_clusters.proofs.ObservedBytes.{AreObserved}
 use Rattle.laws_clusters.proofs.RangeActions.{AreOnEither, SeesBytes, OutAcked, RecordAcked, transact_on, answer_on, reads_seen, transact_seen, answer_seen}
 
@@ -66,7 +72,7 @@ rows_made nodes target moves range e (index, at) none = go (stream_of (run_moves
         let made = ((lists_grow nodes target moves []).listed (rows_of range) z is).there index e there in
         let both : None ≡ Some made.0 = sym none ∙ made.1 in cc
 
-module _ (generation : ℕ → ℕ) (nodes target : ℕ) (c : Cluster) (y : ServerRun) (x : Standing generation nodes target c y) (range : ℕ) (counted : 1 ≤ range) where
+module _ (generation : ℕ → ℕ) (nodes target : ℕ) (c : Cluster) (y : ServerRun) (x : Standing generation nodes target c y) (range : ℕ) (founded : IsFounded c.stream_layer range) where
   abbrev w : StreamSystem
   w = here generation nodes target x.moves
 
@@ -76,13 +82,17 @@ module _ (generation : ℕ → ℕ) (nodes target : ℕ) (c : Cluster) (y : Serv
   beside : AreBeside generation nodes target x.moves range z
   beside = x.beside range
 
-  metadata_below : Below generation (metadata_of range) nodes target x.moves (after_all Group generation z.m) z.m_sent
-  metadata_below = beside.metadata counted
+  -- its streams are there
+  has : HasStreams w range
+  has = subst (λ (v : StreamSystem). HasStreams v range) (sym x.leads) founded.1
 
-  log_below : Below generation (log_of range) nodes target x.moves (after_all Group generation z.l) z.l_sent
-  log_below = beside.log counted
+  pub metadata_below : Below generation (metadata_of range) nodes target x.moves (after_all Group generation z.m) z.m_sent
+  metadata_below = there_below generation nodes target x.moves (metadata_of range) z.m z.m_sent (beside.metadata founded.0) (has kinds.Metadata)
 
-  -- what was formed of the metadata says checkpoints
+  pub log_below : Below generation (log_of range) nodes target x.moves (after_all Group generation z.l) z.l_sent
+  log_below = there_below generation nodes target x.moves (log_of range) z.l z.l_sent (beside.log founded.0) (has kinds.Log)
+
+  -- what was formed of the metadata leaves one region
   says : AllSay (after_all Group generation z.m).state.story
   says = subst (λ story. AllSay story) (x.stories.metadata_is range) (x.says range)
 
@@ -116,36 +126,61 @@ module _ (generation : ℕ → ℕ) (nodes target : ℕ) (c : Cluster) (y : Serv
       pub on_either : AreOnEither actions
       pub observed : SeesBytes w.notes (view_after_all (generation i) v actions).shown (view_after_all (generation i) v actions).answered
 
+    -- what a step of the range and its split does, and leaves
+    pub record Acted (v : RangeView) (t : SplitStep) (actions : List StreamAction) : Type 0 where
+      pub rule : SplitSees generation range w i v m l d t actions
+      pub read : HasReadIf range w i m.stand.state l.stand.state (view_after_all (generation i) v actions).history t.range
+      pub on_either : AreOnEither actions
+      pub observed : SeesBytes w.notes (view_after_all (generation i) v actions).shown (view_after_all (generation i) v actions).answered
+
+    -- a rule of the range, with this split beside it
+    pub done_beside : (by : IsSentBy d d.count z.m_sent z.l_sent) (v : RangeView) (o : RangeOutcome) (actions : List StreamAction) (job : Option SplitJob) → Done v o actions →
+        ((n k : Side) → FollowsIf generation range w i o.after n k → FollowsBothIf generation range w i job o.after n k) → Acted v (record { range = o.after; job = job; count = o.count; packets = o.packets }) actions
+    done_beside by v o actions job done beside = record {
+      rule = rule_split generation range w i both m l d by v o job actions done.rule beside;
+      read = done.read;
+      on_either = done.on_either;
+      observed = done.observed;
+    }
+
+    -- one that is not split
+    pub done_alone : (by : IsSentBy d d.count z.m_sent z.l_sent) (v : RangeView) (o : RangeOutcome) (actions : List StreamAction) → Done v o actions → Acted v (record { range = o.after; job = None; count = o.count; packets = o.packets }) actions
+    done_alone by v o actions done = done_beside by v o actions None done (λ n k f. alone o.after n k f)
+      where
+        alone : (a : Option RangeState) (n k : Side) → FollowsIf generation range w i a n k → FollowsBothIf generation range w i None a n k
+        alone None n k f = tt
+        alone (Some r) n k f = f
+
     module _ (by : IsSentBy d d.count z.m_sent z.l_sent) (v : RangeView) (seen : SeesBytes w.notes v.shown v.answered) where
-      module _ (r : RangeState) (h : Holds generation nodes target x.moves range z v.history i r) (past : IsPastRows d r) where
+      module _ (r : RangeState) (f : Follows generation range w i m l r) (h : HasRead range w i m.stand.state l.stand.state v.history r) (past : IsPastRows d r) where
         pub transact_done : (from : ActorId) (q : ReqNo) (changes : List Change) → Done v (transact_rule d r from q changes) (transact_actions r (transact_rule d r from q changes))
         transact_done from q changes = record {
-          rule = transact_sees generation range w i both m l d by v r h.follows past from q changes;
-          read = transact_left generation range w i m l v d r h.read from q changes;
+          rule = transact_sees generation range w i both m l d by v r f past from q changes;
+          read = transact_left generation range w i m l v d r h from q changes;
           on_either = transact_on r (transact_rule d r from q changes);
           observed = transact_seen (generation i) w.notes v seen r (transact_rule d r from q changes);
         }
 
         pub get_done : (from : ActorId) (q : ReqNo) (key : List ℕ) → Done v (get_rule d r from q key) []
         get_done from q key = record {
-          rule = get_sees generation range w i both m l d by v r h.follows from q key;
-          read = get_left generation range w i m l v d r h.read from q key;
+          rule = get_sees generation range w i both m l d by v r f from q key;
+          read = get_left generation range w i m l v d r h from q key;
           on_either = tt;
           observed = seen;
         }
 
         pub give_up_done : Done v (give_up_all d r) []
         give_up_done = record {
-          rule = give_up_sees generation range w i both m l d by v r h.follows past;
-          read = give_up_left generation range w i m l v d r h.read;
+          rule = give_up_sees generation range w i both m l d by v r f past;
+          read = give_up_left generation range w i m l v d r h;
           on_either = tt;
           observed = seen;
         }
 
         pub checkpoint_done : (combine : Bool) → checkpoint_fault r ≡ None → Done v (checkpoint_rule d r combine) []
         checkpoint_done combine may = record {
-          rule = checkpoint_sees generation range w i both m l d by v r h.follows combine may;
-          read = checkpoint_left generation range w i m l v d r h.read combine may;
+          rule = checkpoint_sees generation range w i both m l d by v r f combine may;
+          read = checkpoint_left generation range w i m l v d r h combine may;
           on_either = tt;
           observed = seen;
         }
@@ -180,36 +215,36 @@ module _ (generation : ℕ → ℕ) (nodes target : ℕ) (c : Cluster) (y : Serv
           l_sized = all_sized (stream_of w.catalog.stream (log_of range)) log_below.follows.ground l.stand.state z.l_sent log_below.follows.shaped.settled i log_below.follows.holds.sound
 
           read_rightly : (b : IsConfirming generation range w i m l r) → LoadIsRead generation i range w v m l r b
-          read_rightly b = load_is_read generation range w i m l v r h.read h.follows b m_sized l_sized m_once l_once
+          read_rightly b = load_is_read generation range w i m l v r h f b m_sized l_sized m_once l_once
 
           reads_were_seen : (q : ReqNo) → r.load.phase ≡ phases.Confirming q → AreObserved w.notes (bytes_read (v.history.reads kinds.Log))
-          reads_were_seen q e = reads_seen w (v.history.reads kinds.Log) (reads_observed generation range w i m l v r h.read h.follows q e)
+          reads_were_seen q e = reads_seen w (v.history.reads kinds.Log) (reads_observed generation range w i m l v r h f q e)
 
           -- where the log has no extent, the region that is left open begins at its first
           begins : IsConfirming generation range w i m l r → BeginsRightly r
-          begins b region is none = begins_rightly generation range w i m l v r h.read h.follows b (has_checkpoints generation z.m beside.m_are says i) region is none
+          begins b region is none = begins_rightly generation range w i m l v r h f b (has_one_region generation z.m beside.m_are says i) region is none
 
           -- the group that is out is acknowledged where it stands
           out_acked_there : is_serving r.stage ≡ true → OutAcked (generation i) w.notes v seen r (reply_rule (picking d r.log) (request d) body).news
           out_acked_there serves =
-              let b : IsServing generation range w i m l r = subst (λ z. StageIs generation range w i m l r z) (serving_only r.stage serves) h.follows.stage in
+              let b : IsServing generation range w i m l r = subst (λ z. StageIs generation range w i m l r z) (serving_only r.stage serves) f.stage in
               out_acked generation (log_of range) nodes target x.moves (after_all Group generation z.l) z.l_sent log_below i r.log r.out b.log.told b.log.job b.out d from server body there two
 
           -- and so is the record of a checkpoint
           recorded_there : is_serving r.stage ≡ true → RecordAcked (generation i) w.notes v seen r (reply_rule (picking d r.metadata) (request d) body).news
           recorded_there serves =
-              let b : IsServing generation range w i m l r = subst (λ z. StageIs generation range w i m l r z) (serving_only r.stage serves) h.follows.stage in
+              let b : IsServing generation range w i m l r = subst (λ z. StageIs generation range w i m l r z) (serving_only r.stage serves) f.stage in
               record_acked generation (metadata_of range) nodes target x.moves (after_all Group generation z.m) z.m_sent metadata_below i r b.metadata.told b.metadata.job b.record_is d from server body there one
 
           pub answer_done : Done v (answer_rule d r u body) (answer_actions d r u body (answer_rule d r u body))
           answer_done = record {
-            rule = answer_sees generation range w i both m l d by v r h.follows past u body metadata_counts counts number one two
-                (rows_told nodes target x.moves range generation i m l r h.follows (after_all Group generation z.m) metadata_below from server body there rows_asked) read_rightly begins;
-            read = answer_left generation range w i both m l d v r h.read h.follows u body number (one, two)
+            rule = answer_sees generation range w i both m l d by v r f past u body metadata_counts counts number one two
+                (rows_told nodes target x.moves range generation i m l r (load_number nodes target x.moves range generation i m l r f) f.rows.stream (after_all Group generation z.m) metadata_below from server body there rows_asked) read_rightly begins;
+            read = answer_left generation range w i both m l d v r h f u body number (one, two)
                 (shows_now nodes target x.moves generation (log_of range) l.stand.state z.l_sent log_below.follows from server body there);
             on_either = answer_on d r u body (answer_rule d r u body);
             observed = answer_seen (generation i) w.notes v seen r reads_were_seen d u body (answer_rule d r u body) out_acked_there recorded_there
-                (rows_acked nodes target x.moves range generation i m l r h.follows (after_all Group generation z.m) metadata_below from server body there rows_asked d) (bytes_seen nodes target x.moves range from server body there);
+                (rows_acked nodes target x.moves range generation i m l r (load_number nodes target x.moves range generation i m l r f) f.rows.stream (after_all Group generation z.m) metadata_below from server body there rows_asked d) (bytes_seen nodes target x.moves range from server body there);
           }
 
       -- ---- a range is taken

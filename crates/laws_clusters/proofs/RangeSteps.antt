@@ -1,9 +1,10 @@
 -- The streams of a range go on with what the range does at a server.
-use Rattle.std.proofs.Common.{◌≡◌, ℕ, ◌≤◌, List, [], ◌∷◌, ◌++◌, length, Some, None, slice_get, Contains, refl, sym, ap, subst, arith}
+use Rattle.std.proofs.Common.{◌≡◌, ℕ, ◌≤◌, List, [], ◌∷◌, ◌++◌, length, Option, Some, None, slice_get, Contains, refl, sym, ap, subst, arith, inl}
 use Rattle.wire.specs.declared.actor.ReqNo.{ReqNo}
 use Rattle.wire.specs.declared.actor.ReqNo.TheVariants as requests
 use Rattle.wire.specs.declared.note.Note.{Note}
 use Rattle.wire.specs.declared.packet.Packet.{Packet}
+use Rattle.wire.specs.declared.streams.StreamKind.TheVariants as kinds
 use Rattle.wire.specs.declared.streams.StreamName.{StreamName}
 use Rattle.replica.specs.Groups.{Group}
 use Rattle.streams.specs.Streams.{stream_of}
@@ -11,16 +12,19 @@ use Rattle.model_streams.specs.Manager.{Catalog}
 use Rattle.model_streams.specs.StreamSystem.{StreamSystem, Move}
 use Rattle.model_partition.specs.declared.server_context.ServerContext.{ServerContext}
 use Rattle.model_histories.specs.StreamMachine as extents
-use Rattle.model_partition.specs.Range.{RangeOutcome}
+use Rattle.model_partition.specs.declared.split_job.SplitJob.{SplitJob}
+use Rattle.model_partition.specs.Range.{RangeState, RangeOutcome}
 use Rattle.model_histories.specs.ServerTurns.{Turn, Whole, after_all}
 use Rattle.model_histories.specs.ServerTurns as machine
 use Rattle.laws_stream_machine.specs.Refinement.{Purpose, Sent, purpose_of, IsAt, IsAsked, extents_of}
-use Rattle.laws_ranges.specs.Serves.{Stand, Side, after_turns, metadata_of, log_of, rows_of, Wider, AskedOfBoth, RuleGoes}
+use Rattle.laws_ranges.specs.Serves.{Stand, Side, after_turns, metadata_of, log_of, rows_of, Wider, BothGo}
+use Rattle.laws_ranges.specs.SplitJobs.{AskedOfSplit}
 use Rattle.laws_ranges.proofs.TurnsAsMoves.{stand_of, moves_of, stands_after, others_stand, are_moves}
 use Rattle.laws_ranges.proofs.MachineSteps.{wider_turns}
 use Rattle.laws_stream_machine.proofs.LowerLayer.{Below}
 use Rattle.laws_stream_machine.proofs.ServerRequests.{Unused}
 use Rattle.laws_clusters.proofs.StreamMachines.{AllAskedOf, Further, below_turns, below_adds}
+use Rattle.laws_clusters.proofs.RangeStreams.{HasStreams}
 use Rattle.laws_clusters.proofs.Invariant.{Machines, here, m_side, l_side, AreBeside}
 
 -- an incarnation stands where it stood
@@ -56,8 +60,8 @@ module _ (generation : ℕ → ℕ) (nodes target : ℕ) where
         purposes = keeps;
       }
 
-  module _ (moves : List Move) (range : ℕ) (x : Machines generation) (i : ℕ) (d : ServerContext) (o : RangeOutcome)
-      (g : RuleGoes generation range (here generation nodes target moves) i (m_side generation x i) (l_side generation x i) d o) where
+  module _ (moves : List Move) (range : ℕ) (x : Machines generation) (i : ℕ) (d : ServerContext) (o : RangeOutcome) (Then : Option RangeState → Side → Side → Type 0)
+      (g : BothGo generation range (here generation nodes target moves) i Then (m_side generation x i) (l_side generation x i) d o) where
     abbrev w : StreamSystem
     w = here generation nodes target moves
 
@@ -92,18 +96,20 @@ module _ (generation : ℕ → ℕ) (nodes target : ℕ) where
       notes = notes;
     }
 
-    asked_of_metadata : (ps : List Packet) → AskedOfBoth generation range w i o.after m_after l_after ps → AllAskedOf generation nodes target (metadata_of range) w (after_all Group generation machines_after.m) g.metadata_sent ps
-    asked_of_metadata [] a = tt
-    asked_of_metadata (p ∷ ps) a = (subst (λ (s : Stand). IsAsked generation (metadata_of range) w s.state g.metadata_sent p.body) (sym (stands_after generation i g.metadata_turns x.m)) a.0.0, asked_of_metadata ps a.1)
+    asked_of_metadata : (after : Option RangeState) (job : Option SplitJob) (ps : List Packet) → AskedOfSplit generation range w i after job m_after l_after ps → AllAskedOf generation nodes target (metadata_of range) w (after_all Group generation machines_after.m) g.metadata_sent ps
+    asked_of_metadata after job [] a = tt
+    asked_of_metadata after job (p ∷ ps) a = (subst (λ (s : Stand). IsAsked generation (metadata_of range) w s.state g.metadata_sent p.body) (sym (stands_after generation i g.metadata_turns x.m)) a.0.0, asked_of_metadata after job ps a.1)
 
-    asked_of_log : (ps : List Packet) → AskedOfBoth generation range w i o.after m_after l_after ps → AllAskedOf generation nodes target (log_of range) w (after_all Group generation machines_after.l) g.log_sent ps
-    asked_of_log [] a = tt
-    asked_of_log (p ∷ ps) a = (subst (λ (s : Stand). IsAsked generation (log_of range) w s.state g.log_sent p.body) (sym (stands_after generation i g.log_turns x.l)) a.0.1, asked_of_log ps a.1)
+    asked_of_log : (after : Option RangeState) (job : Option SplitJob) (ps : List Packet) → AskedOfSplit generation range w i after job m_after l_after ps → AllAskedOf generation nodes target (log_of range) w (after_all Group generation machines_after.l) g.log_sent ps
+    asked_of_log after job [] a = tt
+    asked_of_log after job (p ∷ ps) a = (subst (λ (s : Stand). IsAsked generation (log_of range) w s.state g.log_sent p.body) (sym (stands_after generation i g.log_turns x.l)) a.0.1, asked_of_log after job ps a.1)
 
     -- the machines after it are the streams, where these packets were sent
-    pub goes_on : AreBeside generation nodes target moves range x → ((k : ℕ) → d.count ≤ k → Unused w (requests.Server d.server d.session k)) →
-        (ps : List Packet) (v : StreamSystem) → AskedOfBoth generation range w i o.after m_after l_after ps → (told : Further generation nodes target moves v ps) → AreBeside generation nodes target (moves ++ told.after) range machines_after
-    goes_on z unused ps v asked told =
+    pub goes_on : AreBeside generation nodes target moves range x → Below generation (metadata_of range) nodes target moves (after_all Group generation x.m) x.m_sent →
+        Below generation (log_of range) nodes target moves (after_all Group generation x.l) x.l_sent → ((k : ℕ) → d.count ≤ k → Unused w (requests.Server d.server d.session k)) →
+        (after : Option RangeState) (job : Option SplitJob) (ps : List Packet) (v : StreamSystem) → AskedOfSplit generation range w i after job m_after l_after ps → (told : Further generation nodes target moves v ps) →
+        HasStreams (here generation nodes target (moves ++ told.after)) range → AreBeside generation nodes target (moves ++ told.after) range machines_after
+    goes_on z metadata log unused after job ps v asked told has =
         let a = g.metadata_adds in
         let b = g.log_adds in
         let q : ReqNo = requests.Server d.server d.session a.number in
@@ -113,13 +119,19 @@ module _ (generation : ℕ → ℕ) (nodes target : ℕ) where
           l_are = are_moves generation i g.log_turns x.l z.l_are g.log_allowed;
           apart = g.sent_by.apart;
           metadata = λ counted.
-              told.below (metadata_of range) (after_all Group generation machines_after.m) g.metadata_sent (asked_of_metadata ps asked)
-              (subst (λ l. Below generation (metadata_of range) nodes target moves (after_all Group generation machines_after.m) l) (sym a.is)
-              (below_adds generation nodes target (metadata_of range) moves (after_all Group generation machines_after.m) x.m_sent q a.purpose (unused a.number a.from)
-              (below_turns generation nodes target (metadata_of range) moves i g.metadata_turns x.m x.m_sent (z.metadata counted))));
+              inl (record {
+                there = has kinds.Metadata;
+                below = told.below (metadata_of range) (after_all Group generation machines_after.m) g.metadata_sent (asked_of_metadata after job ps asked)
+                    (subst (λ l. Below generation (metadata_of range) nodes target moves (after_all Group generation machines_after.m) l) (sym a.is)
+                    (below_adds generation nodes target (metadata_of range) moves (after_all Group generation machines_after.m) x.m_sent q a.purpose (unused a.number a.from)
+                    (below_turns generation nodes target (metadata_of range) moves i g.metadata_turns x.m x.m_sent metadata)));
+              });
           log = λ counted.
-              told.below (log_of range) (after_all Group generation machines_after.l) g.log_sent (asked_of_log ps asked)
-              (subst (λ l. Below generation (log_of range) nodes target moves (after_all Group generation machines_after.l) l) (sym b.is)
-              (below_adds generation nodes target (log_of range) moves (after_all Group generation machines_after.l) x.l_sent r b.purpose (unused b.number b.from)
-              (below_turns generation nodes target (log_of range) moves i g.log_turns x.l x.l_sent (z.log counted))));
+              inl (record {
+                there = has kinds.Log;
+                below = told.below (log_of range) (after_all Group generation machines_after.l) g.log_sent (asked_of_log after job ps asked)
+                    (subst (λ l. Below generation (log_of range) nodes target moves (after_all Group generation machines_after.l) l) (sym b.is)
+                    (below_adds generation nodes target (log_of range) moves (after_all Group generation machines_after.l) x.l_sent r b.purpose (unused b.number b.from)
+                    (below_turns generation nodes target (log_of range) moves i g.log_turns x.l x.l_sent log)));
+              });
         }

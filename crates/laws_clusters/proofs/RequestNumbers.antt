@@ -1,11 +1,14 @@
 -- The numbers of requests that servers have used, over starts and stops.
-use Rattle.std.proofs.Common.{◌≡◌, ◌⊎◌, ℕ, suc, ◌-◌, ◌^◌, ◌≤◌, ◌<◌, Bool, true, false, List, map, Option, Some, None, option_map, Contains, slice_set, refl, sym, ap, ◌∙◌, subst, inl, inr, arith, if◌then◌else◌, ◌==◌, nat_lt}
+use Rattle.std.proofs.Common.{◌≡◌, ◌⊎◌, ℕ, suc, ◌-◌, ◌^◌, ◌≤◌, ◌<◌, Bool, true, false, List, ◌∷◌, map, Option, Some, None, option_map, Contains, slice_set, refl, sym, ap, ◌∙◌, subst, inl, inr, arith, if◌then◌else◌, ◌==◌, nat_lt}
 use Rattle.std.proofs.lemmas.Bool.Decides.{nat_tests}
 use Rattle.wire.specs.declared.actor.ActorId.{ActorId}
 use Rattle.wire.specs.declared.actor.ActorId.TheVariants.{Server}
 use Rattle.wire.specs.declared.actor.ReqNo.{ReqNo}
 use Rattle.wire.specs.declared.actor.ReqNo.TheVariants as requests
 use Rattle.wire.specs.declared.body.Body.{Body}
+use Rattle.wire.specs.declared.body.Body.TheVariants as bodies
+use Rattle.wire.specs.declared.body.MapBody.TheVariants as maps
+use Rattle.wire.specs.declared.body.StreamBody.TheVariants as streams
 use Rattle.wire.specs.declared.packet.Packet.{Packet}
 use Rattle.client.specs.Requests.{is_same}
 use Rattle.model_streams.specs.Maps.{entry_at}
@@ -26,9 +29,22 @@ abbrev pub IsPast : List ServerCell → ReqNo → Type 0
 IsPast servers (requests.Server s n k) = (cell : ServerCell) × (entry_at servers s ≡ Some cell) × PastAt cell n k
 IsPast servers q = ⊥
 
+-- the number that a server asks under, also where it asks for streams to be built, or the map about a split
+abbrev pub used_number : Body → Option ReqNo
+used_number (bodies.Stream (streams.MultiModify (m ∷ list) q)) = Some q
+used_number (bodies.Map (maps.BeginSplit range generation key q)) = Some q
+used_number (bodies.Map (maps.CompleteSplit range generation q)) = Some q
+used_number body = asked_number body
+
+pub asked_used : (body : Body) (q : ReqNo) → asked_number body ≡ Some q → used_number body ≡ Some q
+asked_used (bodies.Stream (streams.MultiModify list v)) q e = absurd (let z : None ≡ Some q = e in cc)
+asked_used (bodies.Stream body) q e = e
+asked_used (bodies.Map body) q e = absurd (let z : None ≡ Some q = e in cc)
+asked_used body q e = e
+
 -- each number that a server has asked under was used
 abbrev pub AreNumbersPast : List ServerCell → List Packet → Type 0
-AreNumbersPast servers post = (server : ℕ) (to : ActorId) (body : Body) → Contains post (packet (Server server) to body) → (q : ReqNo) → asked_number body ≡ Some q → IsPast servers q
+AreNumbersPast servers post = (server : ℕ) (to : ActorId) (body : Body) → Contains post (packet (Server server) to body) → (q : ReqNo) → used_number body ≡ Some q → IsPast servers q
 
 -- each number that has a purpose was used
 abbrev pub AllPast : List ServerCell → List Sent → Type 0

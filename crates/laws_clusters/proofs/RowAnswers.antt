@@ -147,10 +147,10 @@ module _ (nodes target : ℕ) where
 
     -- ---- a range
 
-    module _ (generation : ℕ → ℕ) (i : ℕ) (m l : Side) (r : RangeState) (f : Follows generation range w i m l r) where
+    module _ (generation : ℕ → ℕ) (i : ℕ) (m l : Side) (r : RangeState) where
       -- the number of the opening and of the confirmation is one of the metadata's
-      load_number : (stage : Stage) → StageIs generation range w i m l r stage → (q : ReqNo) → load_awaits r.load.phase q ≡ true → HasPurpose m.sent q
-      load_number stage b q waits = go stage b
+      stage_number : (stage : Stage) → StageIs generation range w i m l r stage → (q : ReqNo) → load_awaits r.load.phase q ≡ true → HasPurpose m.sent q
+      stage_number stage b q waits = go stage b
         where
           opened : (phase : LoadPhase) → r.load.phase ≡ phase → load_awaits phase q ≡ false → HasPurpose m.sent q
           opened phase is none = absurd (let z : false ≡ true = sym none ∙ ap (λ p. load_awaits p q) (sym is) ∙ waits in cc)
@@ -169,14 +169,24 @@ module _ (nodes target : ℕ) where
           go stages.Confirming c = own_number (HasPurpose m.sent) c.q q (ap (λ p. load_awaits p q) (sym c.phase) ∙ waits) (_, c.metadata.for)
           go stages.Serving c = opened phases.Confirmed c.phase refl
 
-      module _ (whole_log : Whole Group generation) (below : Below generation (metadata_of range) nodes target moves whole_log m.sent) (from : ActorId) (server : ℕ) (body : Body)
+      abbrev LoadNumber : Type 0
+      LoadNumber = (q : ReqNo) → load_awaits r.load.phase q ≡ true → HasPurpose m.sent q
+
+      pub load_number : Follows generation range w i m l r → LoadNumber
+      load_number f q waits = stage_number r.stage f.stage q waits
+
+      -- a range that is served waits for no opening
+      pub served_number : r.load.phase ≡ phases.Confirmed → LoadNumber
+      served_number served q waits = absurd (let z : false ≡ true = ap (λ p. load_awaits p q) (sym served) ∙ waits in cc)
+
+      module _ (number_of : LoadNumber) (stream : r.rows.stream ≡ rows_of range) (whole_log : Whole Group generation) (below : Below generation (metadata_of range) nodes target moves whole_log m.sent) (from : ActorId) (server : ℕ) (body : Body)
           (there : Contains w.post (packet from (Server server) body))
           (asked : (q : ReqNo) → awaits r.rows.job q ≡ true → (server : ℕ) (to : ActorId) (b : Body) → Contains w.post (packet (Server server) to b) → asked_number b ≡ Some q → AsksBy r.rows b) where
         opened_here : (q : ReqNo) → load_awaits r.load.phase q ≡ true → (n g : ℕ) → Contains w.post (packet (Server server) Manager (bodies.Stream (streams.OpenStreams n g q))) → n ≡ range
         opened_here q waits n g at = elim (cases_eq n range) [
           | inl same ↦ same
           | inr apart ↦ absurd
-              (let p = load_number r.stage f.stage q waits in
+              (let p = number_of q waits in
               let none = (below.asked server Manager (bodies.Stream (streams.OpenStreams n g q)) at).elsewhere apart in
               let z : None ≡ Some p.0 = sym none ∙ p.1 in cc)
         ]
@@ -188,7 +198,7 @@ module _ (nodes target : ℕ) where
             go : (b : Body) → Contains w.post (packet from (Server server) b) → RowsTold w range r b
             go (bodies.Stream (streams.Opened q lists)) at = λ waits x told. opened_rows from server q lists at (opened_here q waits) x told
             go (bodies.Stream (streams.Extended q e places)) at =
-                λ waits. extended_rows from server q e places at (λ name g last pick sent. (asked q waits server Manager (bodies.Stream (streams.Extend name g last pick q)) sent refl).1 ∙ f.rows.stream)
+                λ waits. extended_rows from server q e places at (λ name g last pick sent. (asked q waits server Manager (bodies.Stream (streams.Extend name g last pick q)) sent refl).1 ∙ stream)
             go (bodies.Stream b) at = tt
             go b at = tt
 

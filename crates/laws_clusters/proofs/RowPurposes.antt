@@ -1,5 +1,5 @@
 -- Which job of a range a request is of, by the purpose of its number.
-use Rattle.std.proofs.Common.{◌≡◌, ℕ, true, false, List, Some, None, sym, ap, ◌∙◌, subst, inl, inr}
+use Rattle.std.proofs.Common.{◌≡◌, ℕ, true, false, List, Option, Some, None, sym, ap, ◌∙◌, subst, inl, inr}
 use Rattle.wire.specs.declared.actor.ReqNo.{ReqNo}
 use Rattle.wire.specs.declared.body.AppendBody.TheVariants as appends
 use Rattle.wire.specs.declared.body.Body.{Body}
@@ -15,10 +15,14 @@ use Rattle.client.specs.Requests.{is_same}
 use Rattle.model_streams.specs.StreamSystem.{StreamSystem}
 use Rattle.model_partition.specs.declared.stage.Stage.{Stage}
 use Rattle.model_partition.specs.declared.stage.Stage.TheVariants as stages
+use Rattle.model_partition.specs.declared.split_job.SplitJob.{SplitJob}
+use Rattle.model_partition.specs.declared.split_job.SplitPhase.{SplitPhase}
+use Rattle.model_partition.specs.declared.split_job.SplitPhase.TheVariants as phases
 use Rattle.model_partition.specs.Range.{RangeState}
 use Rattle.laws_stream_machine.specs.Refinement.{Purpose, Sent, purpose_of, asked_number}
 use Rattle.laws_stream_machine.proofs.ServerRequests.{same_request}
-use Rattle.laws_ranges.specs.Serves.{Stand, Side, metadata_of, log_of, IsAside, RowsJob, RowsStand, AsksOfRows, ServesBy, LoadsBy, StageIs, Follows}
+use Rattle.laws_ranges.specs.Serves.{Stand, Side, metadata_of, log_of, IsAside, RowsJob, RowsStand, AsksOfRows, ServesBy, LoadsBy, StageIs}
+use Rattle.laws_ranges.specs.SplitJobs.{PhaseStands, FollowsBoth}
 use Rattle.laws_ranges.proofs.MachineSteps.{request_same}
 use Rattle.laws_clusters.proofs.ClientJobs.{AsksBy, ReadsNothing}
 use Rattle.laws_clusters.proofs.Elsewhere.{RowsRequest}
@@ -108,16 +112,42 @@ module _ (generation : ℕ → ℕ) (range : ℕ) (w : StreamSystem) (i : ℕ) (
   log_at stages.Confirming b q waits = idle_purpose generation (log_of range) w i l.stand l.sent r.log r.log.job b.log.idle q waits
   log_at stages.Serving b q waits = served_purpose generation (log_of range) w i l.stand l.sent r.log r.log.job b.log.job q waits
 
-  -- what is asked under a number of row data is what row data asks
-  module _ (f : Follows generation range w i m l r) (q : ReqNo) (waits : awaits r.rows.job q ≡ true) where
-    aside : IsAside m.sent l.sent q
-    aside = rows_aside range w m.sent l.sent r.rows.job f.rows.job q waits
+  -- the same where the range is being split
+  metadata_phase : (job : SplitJob) (phase : SplitPhase) → PhaseStands generation range w i m l r job phase → (q : ReqNo) → awaits r.metadata.job q ≡ true → HasPurpose m.sent q
+  metadata_phase job (phases.Begin v) b q waits = metadata_at r.stage b.stage q waits
+  metadata_phase job phases.Checkpoint b q waits = metadata_at r.stage b.stage q waits
+  metadata_phase job phases.Queue b q waits = metadata_at r.stage b.0.stage q waits
+  metadata_phase job phases.Record b q waits = served_purpose generation (metadata_of range) w i m.stand m.sent r.metadata r.metadata.job b.1.client.job q waits
+  metadata_phase job (phases.Seal kind v) b q waits = idle_purpose generation (metadata_of range) w i m.stand m.sent r.metadata r.metadata.job b.0.metadata.idle q waits
+  metadata_phase job (phases.Build v) b q waits = idle_purpose generation (metadata_of range) w i m.stand m.sent r.metadata r.metadata.job b.0.metadata.idle q waits
+  metadata_phase job (phases.Keys side c) b q waits = idle_purpose generation (metadata_of range) w i m.stand m.sent r.metadata r.metadata.job b.0.metadata.idle q waits
+  metadata_phase job (phases.Complete v) b q waits = idle_purpose generation (metadata_of range) w i m.stand m.sent r.metadata r.metadata.job b.0.metadata.idle q waits
 
+  log_phase : (job : SplitJob) (phase : SplitPhase) → PhaseStands generation range w i m l r job phase → (q : ReqNo) → awaits r.log.job q ≡ true → HasPurpose l.sent q
+  log_phase job (phases.Begin v) b q waits = log_at r.stage b.stage q waits
+  log_phase job phases.Checkpoint b q waits = log_at r.stage b.stage q waits
+  log_phase job phases.Queue b q waits = log_at r.stage b.0.stage q waits
+  log_phase job phases.Record b q waits = idle_purpose generation (log_of range) w i l.stand l.sent r.log r.log.job b.0.log.idle q waits
+  log_phase job (phases.Seal kind v) b q waits = idle_purpose generation (log_of range) w i l.stand l.sent r.log r.log.job b.0.paused.log.idle q waits
+  log_phase job (phases.Build v) b q waits = idle_purpose generation (log_of range) w i l.stand l.sent r.log r.log.job b.0.paused.log.idle q waits
+  log_phase job (phases.Keys side c) b q waits = idle_purpose generation (log_of range) w i l.stand l.sent r.log r.log.job b.0.paused.log.idle q waits
+  log_phase job (phases.Complete v) b q waits = idle_purpose generation (log_of range) w i l.stand l.sent r.log r.log.job b.0.paused.log.idle q waits
+
+  pub metadata_both : (job : Option SplitJob) → FollowsBoth generation range w i job r m l → (q : ReqNo) → awaits r.metadata.job q ≡ true → HasPurpose m.sent q
+  metadata_both None b q waits = metadata_at r.stage b.stage q waits
+  metadata_both (Some job) b q waits = metadata_phase job job.phase b.stands q waits
+
+  pub log_both : (job : Option SplitJob) → FollowsBoth generation range w i job r m l → (q : ReqNo) → awaits r.log.job q ≡ true → HasPurpose l.sent q
+  log_both None b q waits = log_at r.stage b.stage q waits
+  log_both (Some job) b q waits = log_phase job job.phase b.stands q waits
+
+  -- what is asked under a number of neither stream is what row data asks
+  module _ (split : Option SplitJob) (f : FollowsBoth generation range w i split r m l) (q : ReqNo) (aside : IsAside m.sent l.sent q) where
     not_metadata : awaits r.metadata.job q ≡ true → ⊥
-    not_metadata t = let a = metadata_at r.stage f.stage q t in let z : None ≡ Some a.0 = sym aside.0 ∙ a.1 in cc
+    not_metadata t = let a = metadata_both split f q t in let z : None ≡ Some a.0 = sym aside.0 ∙ a.1 in cc
 
     not_log : awaits r.log.job q ≡ true → ⊥
-    not_log t = let a = log_at r.stage f.stage q t in let z : None ≡ Some a.0 = sym aside.1 ∙ a.1 in cc
+    not_log t = let a = log_both split f q t in let z : None ≡ Some a.0 = sym aside.1 ∙ a.1 in cc
 
     under : (job : Job) (v : ReqNo) → v ≡ q → awaits job v ≡ true → (c : ClientState) → c.job ≡ job → awaits c.job q ≡ true
     under job v same own c is = ap (λ j. awaits j q) is ∙ ap (awaits job) (sym same) ∙ own
@@ -136,7 +166,9 @@ module _ (generation : ℕ → ℕ) (range : ℕ) (w : StreamSystem) (i : ℕ) (
     own_asks (bodies.Stream (streams.Extend stream g last pick v)) (inl a) number = absurd (let same : v ≡ q = cc in not_metadata (under (jobs.Growing last v) v same (request_same v) r.metadata a.0))
     own_asks (bodies.Stream (streams.Extend stream g last pick v)) (inr (inl a)) number = absurd (let same : v ≡ q = cc in not_log (under (jobs.Growing last v) v same (request_same v) r.log a.0))
     own_asks (bodies.Stream (streams.Extend stream g last pick v)) (inr (inr a)) number = a
+    own_asks (bodies.Stream (streams.MultiModify list v)) a number = absurd (let z : None ≡ Some q = number in cc)
     own_asks (bodies.Stream body) a number = tt
+    own_asks (bodies.Map body) a number = absurd (let z : None ≡ Some q = number in cc)
     own_asks body a number = tt
 
 -- ---- what is asked of row data

@@ -56,7 +56,7 @@ use Rattle.model_partition.specs.Getting.{Lookup, Is, Needs, asks_place, answere
 use Rattle.model_partition.specs.CheckpointStates.{CheckpointState}
 use Rattle.model_partition.specs.declared.checkpoint_job.CheckpointPhase.{CheckpointPhase}
 use Rattle.model_partition.specs.declared.checkpoint_job.CheckpointPhase.TheVariants as checkpoints
-use Rattle.model_partition.specs.Checkpoints.{number_to_apply, have_bytes, new_job, new_combining_job, combines, with_fixed, with_phase, rows_go, writes_pages, combined_job, writes_combined, asks_page, merges_next, merges, page_comes, page_read, page_bytes, page_told, checkpoint_rule, pages_stand, checkpoint_record, has_record_number, may_record, index_place, records, index_stands, rows_stand, rows_stand_at, rows_told, rows_may_stand, rows_reply, record_stands, record_told, trim_awaits, trim_told, trim_reply_in, phase_again, trim_again}
+use Rattle.model_partition.specs.Checkpoints.{number_to_apply, have_bytes, new_job, new_combining_job, combines, with_fixed, with_phase, rows_go, writes_pages, combined_job, writes_combined, asks_page, merges_next, merges, page_comes, page_read, page_bytes, page_told, begins, checkpoint_rule, pages_stand, checkpoint_record, has_record_number, may_record, index_place, records, index_stands, rows_stand, rows_stand_at, rows_told, rows_may_stand, rows_reply, record_stands, record_told, trim_awaits, trim_told, trim_reply_in, phase_again, trim_again}
 use Rattle.model_partition.specs.Answering.{load_refused, load_told, load_reply, metadata_reply, serving_news, is_taken, log_taken, log_reply, index_told, index_reply, page_reply, trim_reply, bytes_reply, gets_reply, answer_rule, gives_up_job, gives_up_reading, give_up_all, groups_of}
 use Rattle.laws_clusters.proofs.ClientJobs.{AsksBy, AskedIf, IsUnder, JobFrom, ReadsNothing, given_asks, given_steps, append_steps, check_asks, read_sealed_asks, read_checked_asks, reply_steps, appended_idle, give_up_asks, give_up_from}
 
@@ -82,7 +82,7 @@ in_flat : {A : Type 0} (r : RangeState) (f : A → List Packet) → ((x : A) →
 in_flat r f h [] = tt
 in_flat r f h (x ∷ xs) = in_both r (f x) (flat_map f xs) (h x) (in_flat r f h xs)
 
-by_metadata : (r : RangeState) (p : Option Packet) → AskedIf r.metadata p → AllIn r (option_to_list p)
+pub by_metadata : (r : RangeState) (p : Option Packet) → AskedIf r.metadata p → AllIn r (option_to_list p)
 by_metadata r None h = tt
 by_metadata r (Some p) h = (inl h, tt)
 
@@ -108,11 +108,11 @@ abbrev pub RowsFrom : ServerContext → ClientState → ℕ → ClientState → 
 RowsFrom d c count n = IsOld c n ⊎ IsFresh d count n.job
 
 abbrev pub RowsIf : ServerContext → ClientState → ℕ → List Packet → Option RangeState → Type 0
-RowsIf d c count packets None = Unit {0}
+RowsIf d c count packets None = (n : RangeState) → AllIn n packets
 RowsIf d c count packets (Some r) = RowsFrom d c count r.rows × AllIn r packets
 
 -- A rule leaves of the job of row data what was out, or one under a number that was not used, and each request about extents that it
--- sends is that of a job; a range that is dropped has no job.
+-- sends is that of a job; a range that is dropped has no job, and tells its users alone.
 abbrev pub LeavesRows : ServerContext → ClientState → RangeOutcome → Type 0
 LeavesRows d c o = RowsIf d c o.count o.packets o.after
 
@@ -131,6 +131,10 @@ module _ (d : ServerContext) where
       in_both n _ _
       (in_map n (λ (t : WaitingTransaction). refuses d t.from t.request refusals.NotOwner) (λ t. inl tt) (waiting_out r.out ++ r.queue))
       (in_map n (λ (g : WaitingGet). refuses d g.from g.request refusals.NotOwner) (λ g. inl tt) r.gets)
+
+  -- a range that is dropped
+  gone_in : (r n : RangeState) → AllIn n (refused_users d r)
+  gone_in r = λ n. refused_in r n
 
   pub users_in : (n : RangeState) (known : Option RangeState) → AllIn n (users_of d known)
   users_in n None = tt
@@ -170,7 +174,7 @@ module _ (d : ServerContext) where
     before_these packets o plain left = go o.after left
       where
         go : (a : Option RangeState) → RowsIf d c o.count o.packets a → RowsIf d c o.count (packets ++ o.packets) a
-        go None left = tt
+        go None left = λ n. in_both n packets o.packets (plain n) (left n)
         go (Some n) left = (left.0, in_both n packets o.packets (plain n) left.1)
 
     applies_left : (r : RangeState) (out : OutGroup) (extent offset : ℕ) → IsOld c r.rows → Leaves (applies d r out extent offset)
@@ -196,7 +200,7 @@ module _ (d : ServerContext) where
         (λ f. given_asks l (read_checked_rule l (request d)) (read_checked_asks l (request d)))
 
     asks_index_left : (r : RangeState) (position : ℕ) (index : IndexRange) (places : Option Nodes) → IsOld c r.rows → Leaves (asks_index d r position index places)
-    asks_index_left r position index None old = tt
+    asks_index_left r position index None old = gone_in r
     asks_index_left r position index (Some places) old = (inl old, (inl tt, tt))
 
     reads_named_left : (r : RangeState) (position : ℕ) (named : Option IndexRange) → IsOld c r.rows → Leaves (reads_named d r position named)
@@ -214,7 +218,7 @@ module _ (d : ServerContext) where
         (λ f. reads_index_left r 0 old)
 
     reads_log_from_left : (r : RangeState) (position : Option ℕ) → IsOld c r.rows → Leaves (reads_log_from d r position)
-    reads_log_from_left r None old = tt
+    reads_log_from_left r None old = gone_in r
     reads_log_from_left r (Some position) old = reads_log_left r position old
 
     checks_log_left : (r : RangeState) (x : Option StreamExtent) → IsOld c r.rows → Leaves (checks_log d r x)
@@ -229,7 +233,7 @@ module _ (d : ServerContext) where
     begins_log_left r old =
         if_elim Leaves (is_some (open_region r.said.regions) && is_some (first_position r r.said.regions)) _ _
         (λ t. checks_log_left (record r { regions = r.said.regions }) (last_extent r.log.extents) old)
-        (λ f. tt)
+        (λ f. gone_in r)
 
     reads_metadata_left : (r : RangeState) (position : ℕ) → IsOld c r.rows → Leaves (reads_metadata d r position)
     reads_metadata_left r position old =
@@ -260,21 +264,21 @@ module _ (d : ServerContext) where
         (last_extent lists.metadata.extents) (inl refl)
 
     says_left : (r : RangeState) (position : ℕ) (said : Option MetadataState) → IsOld c r.rows → Leaves (says d r position said)
-    says_left r position None old = tt
+    says_left r position None old = gone_in r
     says_left r position (Some said) old = reads_metadata_left (record r { said = said }) (suc position) old
 
     replays_left : (r : RangeState) (position : ℕ) (x : Option (List Region × Entries)) → IsOld c r.rows → Leaves (replays d r position x)
-    replays_left r position None old = tt
+    replays_left r position None old = gone_in r
     replays_left r position (Some x) old = reads_log_left (record r { regions = x.0; live = x.1 }) (suc position) old
 
     log_read_left : (r : RangeState) (position e : ℕ) (groups : List Group) → IsOld c r.rows → Leaves (log_read d r position e groups)
     log_read_left r position e groups old =
         if_elim Leaves (nat_lt (r.log.base + position) (2 ^ 64)) _ _
         (λ t. replays_left r position (replayed r.said.keys e (record { index = r.log.base + position; offset = 0 }) (r.regions, r.live) groups) old)
-        (λ f. tt)
+        (λ f. gone_in r)
 
     metadata_news_left : (r : RangeState) (groups : List Group) (stage : Stage) (told : Option News) (packets : List Packet) → IsOld c r.rows → AllIn r packets → Leaves (metadata_news d r groups stage told packets)
-    metadata_news_left r groups stage (Some news.Fenced) packets old h = tt
+    metadata_news_left r groups stage (Some news.Fenced) packets old h = gone_in r
     metadata_news_left r groups (Checking kind) (Some (news.Checked e l)) packets old h = reads_metadata_left r 0 old
     metadata_news_left r groups (Checking kind) (Some (news.Sealed e l)) packets old h = reads_metadata_left r 0 old
     metadata_news_left r groups (Reading kind position) (Some (news.Sealed e l)) packets old h = reads_metadata_left r position old
@@ -282,7 +286,7 @@ module _ (d : ServerContext) where
     metadata_news_left r groups stage told packets old h = (inl old, h)
 
     log_news_left : (r : RangeState) (groups : List Group) (stage : Stage) (told : Option News) (packets : List Packet) → IsOld c r.rows → AllIn r packets → Leaves (log_news d r groups stage told packets)
-    log_news_left r groups stage (Some news.Fenced) packets old h = tt
+    log_news_left r groups stage (Some news.Fenced) packets old h = gone_in r
     log_news_left r groups (Checking kind) (Some (news.Checked e l)) packets old h = reads_log_from_left r (first_position r r.regions) old
     log_news_left r groups (Checking kind) (Some (news.Sealed e l)) packets old h = reads_log_from_left r (first_position r r.regions) old
     log_news_left r groups (Reading kind position) (Some (news.Sealed e l)) packets old h = reads_log_left r position old
@@ -290,16 +294,16 @@ module _ (d : ServerContext) where
     log_news_left r groups stage told packets old h = (inl old, h)
 
     serves_from_left : (r : RangeState) (region : Option Region) → IsOld c r.rows → Leaves (serves_from d r region)
-    serves_from_left r None old = tt
-    serves_from_left r (Some region) old = if_elim Leaves (nat_lt 0 region.next) _ _ (λ t. (inl old, tt)) (λ f. tt)
+    serves_from_left r None old = gone_in r
+    serves_from_left r (Some region) old = if_elim Leaves (nat_lt 0 region.next) _ _ (λ t. (inl old, tt)) (λ f. gone_in r)
 
     serves_left : (r : RangeState) → IsOld c r.rows → Leaves (serves d r)
-    serves_left r old = if_elim Leaves (has_position r.log) _ _ (λ t. serves_from_left r (open_region r.regions) old) (λ f. tt)
+    serves_left r old = if_elim Leaves (has_position r.log) _ _ (λ t. serves_from_left r (open_region r.regions) old) (λ f. gone_in r)
 
     installs_left : (r : RangeState) (position : ℕ) (named : Option IndexRange) (index : Option Index) → IsOld c r.rows → Leaves (installs d r position named index)
     installs_left r position (Some named) (Some index) old =
         reads_index_left (record r { indexes = record { place = named.place; keys = named.keys; index = index } ∷ r.indexes }) (suc position) old
-    installs_left r position named index old = tt
+    installs_left r position named index old = gone_in r
 
     index_read_left : (r : RangeState) (stage : Stage) (bytes : List ℕ) → IsOld c r.rows → Leaves (index_read d r stage bytes)
     index_read_left r (Indexing position) bytes old = installs_left r position (index_named r.said.indexes position) (index_at bytes) old
@@ -310,7 +314,7 @@ module _ (d : ServerContext) where
     index_bytes_left r (Some read) place bytes old = if_elim Leaves (is_place read.place place) _ _ (λ t. index_read_left r r.stage bytes old) (λ f. (inl old, tt))
 
     load_refused_left : (r : RangeState) (body : AppendBody) → IsOld c r.rows → Leaves (load_refused d r body)
-    load_refused_left r (appends.Refused w refusals.Stale) old = tt
+    load_refused_left r (appends.Refused w refusals.Stale) old = gone_in r
     load_refused_left r body old = (inl old, tt)
 
     load_told_left : (r : RangeState) (phase : LoadPhase) (body : StreamBody) → IsOld c r.rows → Leaves (load_told d r phase body)
@@ -426,7 +430,7 @@ module _ (d : ServerContext) where
   -- an append that was answered leaves no job
   rows_told_left : (c : ClientState) (r : RangeState) (job : Option CheckpointState) (told : Option News) (packets : List Packet) → RowsFrom d c (suc d.count) r.rows →
       ((e offset : ℕ) → told ≡ Some (news.Appended e offset) → IsOld c r.rows) → AllIn r packets → LeavesRows d c (rows_told d r job told packets)
-  rows_told_left c r job (Some news.Fenced) packets from old h = tt
+  rows_told_left c r job (Some news.Fenced) packets from old h = gone_in r
   rows_told_left c r (Some job) (Some (news.Appended e offset)) packets from old h = stand_at_left c r job e offset (old e offset refl)
   rows_told_left c r None (Some (news.Appended e offset)) packets from old h = (from, h)
   rows_told_left c r None (Some (news.Checked e l)) packets from old h = (from, h)
@@ -451,7 +455,7 @@ module _ (d : ServerContext) where
   record_stands_left r job phase = (inl (inr (refl, refl)), tt)
 
   record_told_left : (r : RangeState) (job : Option CheckpointState) (told : Option News) (packets : List Packet) → AllIn r packets → LeavesRows d r.rows (record_told d r job told packets)
-  record_told_left r job (Some news.Fenced) packets h = tt
+  record_told_left r job (Some news.Fenced) packets h = gone_in r
   record_told_left r (Some job) (Some (news.Appended e offset)) packets h = record_stands_left r job job.phase
   record_told_left r job told packets h = (inl (inr (refl, refl)), h)
 
@@ -476,7 +480,7 @@ module _ (d : ServerContext) where
       (λ f. metadata_news_left r.rows now (groups_of body) r.stage o.news (option_to_list o.packet) (inr (refl, refl)) all)
 
   serving_news_left : (r : RangeState) (told : Option News) (packets : List Packet) → AllIn r packets → LeavesRows d r.rows (serving_news d r told packets)
-  serving_news_left r (Some news.Fenced) packets h = tt
+  serving_news_left r (Some news.Fenced) packets h = gone_in r
   serving_news_left r (Some (news.Appended e offset)) packets h = log_done_left r.rows r r.out e offset (inr (refl, refl))
   serving_news_left r told packets h = (inl (inr (refl, refl)), h)
 
@@ -552,13 +556,15 @@ module _ (d : ServerContext) where
   pub get_leaves : (r : RangeState) (from : ActorId) (q : ReqNo) (key : List ℕ) → LeavesRows d r.rows (get_rule d r from q key)
   get_leaves r from q key = gets_left r from q key (get_fault d r key)
 
+  pub begins_leaves : (r : RangeState) (combine : Bool) → LeavesRows d r.rows (begins d r combine)
+  begins_leaves r combine =
+      if_elim (LeavesRows d r.rows) (combines combine r.indexes) _ _
+      (λ k. merges_left r.rows (with_fixed r) (new_combining_job r) (inr (refl, refl)))
+      (λ k. writes_left r.rows (with_fixed r) (new_job r) (inr (refl, refl)))
+
   pub checkpoint_leaves : (r : RangeState) (combine : Bool) → LeavesRows d r.rows (checkpoint_rule d r combine)
   checkpoint_leaves r combine =
-      if_elim (LeavesRows d r.rows) (have_bytes r.live r.position (number_to_apply r.out r.next)) _ _
-      (λ t. if_elim (LeavesRows d r.rows) (combines combine r.indexes) _ _
-      (λ k. merges_left r.rows (with_fixed r) (new_combining_job r) (inr (refl, refl)))
-      (λ k. writes_left r.rows (with_fixed r) (new_job r) (inr (refl, refl))))
-      (λ f. (inl (inr (refl, refl)), tt))
+      if_elim (LeavesRows d r.rows) (have_bytes r.live r.position (number_to_apply r.out r.next)) _ _ (λ t. begins_leaves r combine) (λ f. (inl (inr (refl, refl)), tt))
 
   -- ---- giving up
 

@@ -2,6 +2,7 @@
 use Rattle.std.proofs.Common.{◌≡◌, ◌⊎◌, ℕ, ◌-◌, ◌≤◌, Bool, true, false, List, [], ◌∷◌, ◌++◌, Option, Some, None, Contains, slice_set, is_some, refl, sym, ap, ◌∙◌, subst, inl, inr, arith, if◌then◌else◌, ◌==◌, ◌&&◌}
 use Rattle.std.specs.BTreeMap.{insert_entry}
 use Rattle.std.specs.Ordering.{nat_cmp}
+use Rattle.std.proofs.lemmas.Option.{same_Some}
 use Rattle.block_types.specs.declared.record.Nodes.{Nodes}
 use Rattle.wire.specs.declared.actor.ActorId.{ActorId}
 use Rattle.wire.specs.declared.actor.ActorId.TheVariants.{Map, Server}
@@ -11,9 +12,11 @@ use Rattle.wire.specs.declared.body.Body.{Body}
 use Rattle.wire.specs.declared.body.Body.TheVariants as bodies
 use Rattle.wire.specs.declared.body.MapBody.{MapBody}
 use Rattle.wire.specs.declared.body.MapBody.TheVariants as maps
+use Rattle.wire.specs.declared.body.StreamBody.TheVariants as streams
 use Rattle.wire.specs.declared.body.TableBody.{TableBody}
 use Rattle.wire.specs.declared.body.TableBody.TheVariants as tables
 use Rattle.wire.specs.declared.packet.Packet.{Packet}
+use Rattle.wire.specs.declared.streams.Modify.{Modify}
 use Rattle.wire.specs.declared.refusal.Refusal.TheVariants as refusals
 use Rattle.wire.specs.declared.streams.StreamKind.TheVariants as kinds
 use Rattle.wire.specs.declared.streams.StreamName.{StreamName}
@@ -31,19 +34,23 @@ use Rattle.wire.specs.declared.refusal.Refusal.{Refusal}
 use Rattle.wire.specs.declared.actor.ReqNo.TheVariants as requests
 use Rattle.client.specs.Client.{awaits}
 use Rattle.model_partition.specs.Cluster.{Cluster, servers_perform}
+use Rattle.model_partition.specs.declared.split_job.SplitJob.{SplitJob}
 use Rattle.model_partition.specs.Getting.{get_rule}
 use Rattle.model_partition.specs.Range.{RangeState, RangeOutcome, request, refuses, waiting_out}
-use Rattle.model_partition.specs.Server.{ServerState, ServerOutcome, range_of, awaiting, rests, sends_one, merge_with, stepped, stepped_alone, new_range, users_of, is_newer, assigned, assign_rule, told_by_map, map_rule, transacts_in, gets_in, table_rule, answer_in, answer_of, numbered_rule, taken_rule, has_numbers, server_rule, given_up, gives_up, picked, give_up_rule, busy_if, has_jobs, checkpoint_refused, checkpoints_in, server_checkpoint}
-use Rattle.model_histories.specs.ServerRun.{ServerRun, RangeEffect, Begins, Does, Rests, Takes, GivesUp, Checkpoints, first_history, with_effect, with_outcome, after_event, told_effect, map_effect, transact_effect, table_effect, answer_effect, awaited_effect, numbered_effect, packet_effect, server_effect, cell_effect}
+use Rattle.model_partition.specs.Splits.{SplitStep}
+use Rattle.model_partition.specs.Server.{ServerState, ServerOutcome, range_of, awaiting, rests, sends_one, split_of, split_awaiting, split_answer, merge_with, stepped, stepped_alone, new_range, users_of, is_newer, assigned, assign_rule, told_by_map, map_rule, transacts_in, gets_in, table_rule, answer_in, answer_of, numbered_rule, taken_rule, has_numbers, server_rule, given_up, gives_up, picked, give_up_rule, busy_if, has_jobs, checkpoint_refused, checkpoints_in, server_checkpoint}
+use Rattle.model_histories.specs.ServerRun.{ServerRun, RangeEffect, Begins, Does, Rests, Takes, GivesUp, Checkpoints, first_history, with_effect, with_outcome, after_event, told_effect, map_effect, transact_effect, get_effect, table_effect, answer_effect, split_effect, awaited_effect, numbered_effect, packet_effect, server_effect, cell_effect}
 use Rattle.model_partition.specs.Serving.{transact_rule}
 use Rattle.model_histories.specs.StreamActions.{StreamAction, transact_actions, answer_actions}
 use Rattle.laws_stream_machine.specs.Refinement.{Sent, asked_number}
 use Rattle.laws_ranges.specs.Seen.{BeganAt}
-use Rattle.laws_ranges.specs.Serves.{Stand, Side, log_of, IsPastRows, FollowsIf, IsSentBy, AreAsked}
+use Rattle.laws_ranges.specs.Serves.{Stand, Side, metadata_of, log_of, after_turns, IsPastRows, FollowsIf, IsSentBy, AreAsked}
+use Rattle.laws_ranges.specs.SplitJobs.{FollowsBothIf, AskedOfSplit, silent}
+use Rattle.laws_ranges.proofs.SplitSteps.{asked_widely}
 use Rattle.laws_ranges.proofs.ServedRules.{asked_of_both}
 use Rattle.laws_ranges.proofs.LogRules.{refused_plain}
 use Rattle.laws_ranges.proofs.BothStreamsAtOnce.{taken}
-use Rattle.laws_ranges.proofs.BothStreams.{asked_joined}
+use Rattle.laws_server_runs.specs.Places.{AreAscending}
 use Rattle.laws_server_runs.specs.RunInvariant.{view_at}
 use Rattle.laws_servers.specs.Sending.{AllFromRanges}
 use Rattle.laws_servers.proofs.ClientPackets.{all_both, from_servers, may_send_all}
@@ -53,21 +60,32 @@ use Rattle.laws_clusters.proofs.RangeSteps as going
 use Rattle.laws_loads.proofs.Entries.{entry_set, set_twice}
 use Rattle.laws_server_runs.proofs.Actions.{same_test}
 use Rattle.laws_server_runs.proofs.StatesKept.{opened}
-use Rattle.laws_server_runs.proofs.Unmerged.{assigned_unmerged}
-use Rattle.laws_server_runs.proofs.Unsplit.{HasNoJob, HaveNoJobs, stepped_is, answer_is, given_up_is, unawaited, transact_effect_is, get_effect_is, answer_effect_is, unawaited_effect, not_refused}
-use Rattle.laws_server_runs.proofs.RangeLists.{inserted_here, inserted_other, ascending_inserted, left_here, left_other, ascending_left}
+use Rattle.laws_server_runs.proofs.Unmerged.{HasNoMerge, HaveNoMerges, assigned_unmerged, unawaited_merge, jobs_unmerged}
+use Rattle.laws_clusters.proofs.UnsplitSteps.{transact_effect_alone, get_effect_alone, answer_effect_alone, stepped_alone_is, answer_alone, given_up_alone}
+use Rattle.laws_server_runs.proofs.Unsplit.{not_refused}
+use Rattle.laws_server_runs.proofs.RangeLists.{inserted_here, inserted_other, ascending_inserted, dropped_here, dropped_other, left_here, left_other, ascending_left}
 use Rattle.laws_clusters.proofs.OtherEvents.{told_nothing, refuses_stands, renew_stands, rule_done, run_done, rests_quiet, quiet_stands, picks_stand, still_runs, StandsAfter, nobody_stands, cell_stands}
-use Rattle.laws_clusters.proofs.RangeRules.{Done, both, transact_done, get_done, give_up_done, checkpoint_done, answer_done, assigned_done}
+use Rattle.laws_clusters.proofs.RangeRules.{Done, Acted, done_alone, both, transact_done, get_done, give_up_done, checkpoint_done, answer_done, assigned_done}
 use Rattle.laws_clusters.proofs.RangeActions.{SeesBytes}
-use Rattle.laws_clusters.proofs.Senders.{all_of_ranges}
-use Rattle.laws_clusters.proofs.OneRange.{IsWord, IsMapWord, word_counted}
-use Rattle.laws_clusters.proofs.Invariant.{HeldAt, RowsOut, Machines, here, m_side, l_side, Holds, IsHeld, Runs, Standing}
+use Rattle.laws_clusters.proofs.Senders.{none_from_map}
+use Rattle.laws_clusters.proofs.MapWords.{IsFounded, IsWord, IsMapWord}
+use Rattle.laws_clusters.proofs.Invariant.{HeldAt, Machines, here, m_side, l_side, Holds, IsHeld, Runs, Standing, OfRows, Out}
+use Rattle.laws_clusters.proofs.ServerNumbers as numbers
 use Rattle.laws_clusters.proofs.ServerRules as steps
-use Rattle.laws_clusters.proofs.ServerRules.{IsLaid}
+use Rattle.laws_clusters.proofs.ServerRules.{IsLaid, AreLaid, laid_behind}
+use Rattle.laws_clusters.proofs.StepShapes.{AreLeft, RowsWaited, StepWaits}
 use Rattle.laws_clusters.proofs.ClientJobs.{AsksBy, ReadsNothing}
 use Rattle.laws_clusters.proofs.RowPurposes.{rows_unread}
-use Rattle.laws_clusters.proofs.RowRules.{RowsFrom, LeavesRows, RowsIf, in_both, users_in, transact_leaves, get_leaves, checkpoint_leaves, answer_leaves, give_up_leaves}
-use Rattle.laws_clusters.proofs.RowSteps.{WasOut, IsNew}
+use Rattle.laws_clusters.proofs.RowRules.{AllIn, RowsFrom, LeavesRows, RowsIf, in_both, users_in, transact_leaves, get_leaves, checkpoint_leaves, answer_leaves, give_up_leaves}
+use Rattle.laws_clusters.proofs.RowSteps.{IsNew}
+use Rattle.laws_clusters.proofs.Elsewhere.{builds_own}
+use Rattle.laws_clusters.proofs.RangeStreams.{IsOfSplit}
+use Rattle.laws_clusters.proofs.RequestNumbers.{used_number, asked_used}
+use Rattle.laws_clusters.proofs.SplitRequests.{sent_in, clients_send, in_used, split_joined, builds_aside}
+
+-- the step of a range that is not split
+abbrev alone_step : RangeOutcome → SplitStep
+alone_step o = record { range = o.after; job = None; count = o.count; packets = o.packets }
 
 -- ---- one range
 
@@ -79,22 +97,16 @@ begun_here : (y : ServerRun) (s range : ℕ) → (with_effect s y (Begins range)
 begun_here y s range = ap (λ b. if b && (range == range) then first_history else y.history s range) (same_test s) ∙ ap (λ b. if b then first_history else y.history s range) (same_test range)
 
 module _ (generation : ℕ → ℕ) (plenty : (g n : ℕ) → (i : ℕ) × (n ≤ i) × (generation i ≡ g)) (nodes target : ℕ) where
-  module _ (c : Cluster) (y : ServerRun) (x : Standing generation nodes target c y) (s : ℕ) (cell : ServerCell) (st : ServerState) (at : entry_at c.servers s ≡ Some cell) (is : cell.state ≡ Some st) (jobless : HasNoJob st) where
-    none : st.splits ≡ []
-    none = jobless.0
-
-    whole : st.merges ≡ []
-    whole = jobless.1
-
+  module _ (c : Cluster) (y : ServerRun) (x : Standing generation nodes target c y) (s : ℕ) (cell : ServerCell) (st : ServerState) (at : entry_at c.servers s ≡ Some cell) (is : cell.state ≡ Some st) (whole : HasNoMerge st) where
     abbrev w : StreamSystem
     w = here generation nodes target x.moves
 
     -- a rule of the server, which does this with streams, leaves a cluster that stands
     abbrev Good : RangeEffect → ServerOutcome → Type 0
-    Good effect o = IsLaid (run_done c y s cell effect o) → Standing generation nodes target (rule_done c s cell o) (run_done c y s cell effect o)
+    Good effect o = AreLaid (run_done c y s cell effect o) o.notes → Standing generation nodes target (rule_done c s cell o) (run_done c y s cell effect o)
 
     run : Runs generation nodes target x.moves x.machines (y.history s) (x.incarnation s) s cell st
-    run = steps.run_of generation nodes target c y x s cell st at is
+    run = numbers.run_of generation nodes target c y x s cell st at is
 
     rests_good : Good Rests (rests st)
     rests_good = λ laid. quiet_stands generation nodes target c s cell st at is (rests st) (rests_quiet st) y x
@@ -114,25 +126,48 @@ module _ (generation : ℕ → ℕ) (plenty : (g n : ℕ) → (i : ℕ) × (n �
 
     -- ---- a range of a number
 
-    module _ (range : ℕ) (counted : 1 ≤ range) where
+    module _ (range : ℕ) (founded : IsFounded c.stream_layer range) where
       abbrev z : Machines generation
       z = x.machines range
 
       by : IsSentBy st.context st.context.count z.m_sent z.l_sent
-      by = steps.sent_by generation nodes target c y x s cell st at is range
+      by = numbers.sent_by generation nodes target c y x s cell st at is range
 
       -- the run itself
       same_run : steps.IsNear s range y y
       same_run = record { history = λ t j apart. refl; story = λ name. refl; shown = λ j. refl; answered = λ j. refl; notes = refl }
 
+      -- where the incarnation stands after a step
+      abbrev m_then : (i : ℕ) (b : ServerRun) (t : SplitStep) (actions : List StreamAction) → Acted generation nodes target c y x range founded i st.context (view_at range b s) t actions → Side
+      m_then i b t actions acted = going.m_after generation nodes target x.moves range z i st.context (silent t) (FollowsBothIf generation range w i t.job) acted.rule.step.goes
+
+      abbrev l_then : (i : ℕ) (b : ServerRun) (t : SplitStep) (actions : List StreamAction) → Acted generation nodes target c y x range founded i st.context (view_at range b s) t actions → Side
+      l_then i b t actions acted = going.l_after generation nodes target x.moves range z i st.context (silent t) (FollowsBothIf generation range w i t.job) acted.rule.step.goes
+
       -- what a rule of the range leaves
-      done_good : (i : ℕ) → ((t j : ℕ) → x.incarnation t j ≡ Some i → (t ≡ s) × (j ≡ range)) → BeganAt ((y.history s range).append kinds.Metadata) ((after_all Group generation z.m).phase i) → BeganAt ((y.history s range).append kinds.Log) ((after_all Group generation z.l).phase i) → (o : RangeOutcome) (actions : List StreamAction) →
-          Done generation nodes target c y x range counted i st.context (view_at range y s) o actions → AllFromRanges o.packets → steps.RowsAfter st range o o.packets →
-          (after : ServerState) → after.context ≡ record st.context { count = o.count } → steps.AreLeft st.ranges after.ranges range o.after →
+      -- it asks to build nothing
+      no_lists : (i : ℕ) (left : Option RangeState) (a b : Side) (ps : List Packet) → AskedOfSplit generation range w i left None a b ps → (server : ℕ) (to : ActorId) (list : List Modify) (q : ReqNo) →
+          Contains ps (packet (Server server) to (bodies.Stream (streams.MultiModify list q))) → (m : Modify) → Contains list m → IsOfSplit c.stream_layer list
+      no_lists i left a b ps asked server to list q now m among = elim (builds_own generation range w i a b left None ps asked (packet (Server server) to (bodies.Stream (streams.MultiModify list q))) now) [
+        | inl none ↦ absurd (none m among)
+        | inr never ↦ absurd never
+      ]
+
+      done_good : split_of st.splits range ≡ None → (i : ℕ) → ((t j : ℕ) → x.incarnation t j ≡ Some i → (t ≡ s) × (j ≡ range)) → BeganAt ((y.history s range).append kinds.Metadata) ((after_all Group generation z.m).phase i) →
+          BeganAt ((y.history s range).append kinds.Log) ((after_all Group generation z.l).phase i) → (o : RangeOutcome) (actions : List StreamAction) →
+          Done generation nodes target c y x range founded i st.context (view_at range y s) o actions → AllFromRanges o.packets → StepWaits st range (alone_step o) o.packets →
+          (o.after ≡ None → (p : Packet) → Contains o.packets p → (q : ReqNo) → used_number p.body ≡ Some q → asked_number p.body ≡ Some q) →
+          (after : ServerState) → after.context ≡ record st.context { count = o.count } → AreLeft st.ranges after.ranges range o.after → after.splits ≡ st.splits →
           Good (Does range (generation i) actions) (record { after = after; packets = o.packets; notes = o.notes })
-      done_good i alone record_began began o actions k senders rows after context_is shape =
-          steps.stepped generation nodes target c y x s cell st at is range counted i alone y same_run record_began began o actions k o.packets (may_send_all o.packets (from_servers o.packets senders)) rows k.rule.goes.asked (all_of_ranges o.packets senders) after
-          context_is shape
+      done_good unsplit i alone record_began began o actions k senders waits gone after context_is shape splits =
+          let acted : Acted generation nodes target c y x range founded i st.context (view_at range y s) (alone_step o) actions = done_alone generation nodes target c y x range founded i st.context by (view_at range y s) o actions k in
+          λ laid. steps.stepped generation nodes target c y x s cell st at is range founded i alone y same_run record_began began (alone_step o) o.notes actions acted o.packets (may_send_all o.packets (from_servers o.packets senders)) waits acted.rule.step.asked (λ none. refl) gone
+          (no_lists i o.after (m_then i y (alone_step o) actions acted) (l_then i y (alone_step o) actions acted) o.packets acted.rule.step.asked)
+          (λ j apart. (
+            builds_aside generation range i w o.after None (m_then i y (alone_step o) actions acted) (l_then i y (alone_step o) actions acted) (metadata_of j) (λ body never. absurd never) o.packets acted.rule.step.asked,
+            builds_aside generation range i w o.after None (m_then i y (alone_step o) actions acted) (l_then i y (alone_step o) actions acted) (log_of j) (λ body never. absurd never) o.packets acted.rule.step.asked,
+          )) (none_from_map o.packets (from_servers o.packets senders)) after context_is shape
+          (record { ascending = subst (λ l. AreAscending l) (sym splits) run.splits_ascending; here = ap (λ l. split_of l range) splits ∙ unsplit; others = λ j apart. ap (λ l. split_of l j) splits }) laid
 
       -- ---- it is taken
 
@@ -156,8 +191,8 @@ module _ (generation : ℕ → ℕ) (plenty : (g n : ℕ) → (i : ℕ) × (n �
         near : steps.IsNear s range y begun
         near = record { history = λ t j apart. begun_apart y s range t j apart; story = λ name. refl; shown = λ j. refl; answered = λ j. refl; notes = refl }
 
-        k : Done generation nodes target c y x range counted i st.context (view_at range begun s) o []
-        k = assigned_done generation nodes target c y x range counted i st.context by (view_at range begun s) (seen_here range) free (begun_here y s range) until
+        k : Done generation nodes target c y x range founded i st.context (view_at range begun s) o []
+        k = assigned_done generation nodes target c y x range founded i st.context by (view_at range begun s) (seen_here range) free (begun_here y s range) until
 
         users_plain : (name : StreamName) (m : Stand) (sent : List Sent) (a : Option RangeState) → AreAsked generation range w i name m sent (users_of st.context a)
         users_plain name m sent None = tt
@@ -166,30 +201,42 @@ module _ (generation : ℕ → ℕ) (plenty : (g n : ℕ) → (i : ℕ) × (n �
         abbrev next : RangeState
         next = new_range st.context range (generation i) until
 
-        inserted : steps.AreLeft st.ranges (insert_entry nat_cmp st.ranges range next) range (Some next)
+        inserted : AreLeft st.ranges (insert_entry nat_cmp st.ranges range next) range (Some next)
         inserted = record {
           ascending = ascending_inserted st.ranges range next run.ascending;
           here = λ r found. sym (inserted_here st.ranges range next) ∙ found;
+          there = λ r is. inserted_here st.ranges range next ∙ is;
           others = λ j apart. inserted_other st.ranges range next j apart;
         }
 
         taken_good : Good (Begins range) (record { after = opened st range (generation i) until; packets = users_of st.context known ++ open_packet st.context.server range (generation i) (request st.context) ∷ []; notes = [] })
         taken_good =
-            let a : Side = going.m_after generation nodes target x.moves range z i st.context o k.rule.goes in
-            let b : Side = going.l_after generation nodes target x.moves range z i st.context o k.rule.goes in
+            let acted : Acted generation nodes target c y x range founded i st.context (view_at range begun s) (alone_step o) [] = done_alone generation nodes target c y x range founded i st.context by (view_at range begun s) o [] k in
+            let a : Side = m_then i begun (alone_step o) [] acted in
+            let b : Side = l_then i begun (alone_step o) [] acted in
             let opening : Packet = open_packet st.context.server range (generation i) (request st.context) in
-            let rows : steps.RowsAfter st range o (users_of st.context known ++ o.packets) =
-            (λ n is_next. (
-              λ q waits. absurd (let next_is : Some next ≡ Some n = is_next in let same : next ≡ n = cc in let none : false ≡ true = ap (λ (u : RangeState). awaits u.rows.job q) same ∙ waits in cc),
-              in_both n (users_of st.context known) (opening ∷ []) (users_in st.context n known) (inl tt, tt),
-            )) in
-            let senders : AllFromRanges (users_of st.context known ++ o.packets) = all_both (users_of st.context known) o.packets (users_all st.context known) ((st.context.server, refl, inl refl), tt) in
-            steps.stepped generation nodes target c y x s cell st at is range counted i (fresh_alone i free) begun near (fresh_recorded i ((begun.history s range).append kinds.Metadata) free) (fresh_began i ((begun.history s range).append kinds.Log) free) o [] k
-            (users_of st.context known ++ o.packets) (may_send_all (users_of st.context known ++ o.packets) (from_servers (users_of st.context known ++ o.packets) senders)) rows
-            (asked_joined generation range w i (both generation nodes target c y x range counted) o.after a b (users_of st.context known) o.packets
-            (asked_of_both generation range w i (both generation nodes target c y x range counted) o.after a b k.rule.goes.sent_by.apart (users_of st.context known) (users_plain (log_of range) b.stand b.sent known)) k.rule.goes.asked)
-            (all_of_ranges (users_of st.context known ++ o.packets) senders)
+            let ps : List Packet = users_of st.context known ++ o.packets in
+            let waits : StepWaits st range (alone_step o) ps =
+            (λ n is_next. record {
+              rows = λ q own. absurd (let next_is : Some next ≡ Some n = is_next in let same : next ≡ n = cc in let none : false ≡ true = ap (λ (u : RangeState). awaits u.rows.job q) same ∙ own in cc);
+              seal = λ later has. absurd cc;
+              call = λ later has. absurd cc;
+              steady = inr (λ later has. absurd cc);
+              sent = clients_send n None ps (in_both n (users_of st.context known) (opening ∷ []) (users_in st.context n known) (inl tt, tt));
+            }) in
+            let senders : AllFromRanges ps = all_both (users_of st.context known) o.packets (users_all st.context known) ((st.context.server, refl, inl refl), tt) in
+            let asked : AskedOfSplit generation range w i o.after None a b ps =
+            split_joined generation range i w o.after None a b (users_of st.context known) o.packets
+            (asked_widely generation range w i o.after None a b (users_of st.context known)
+            (asked_of_both generation range w i (both generation nodes target c y x range founded) o.after a b acted.rule.step.goes.sent_by.apart (users_of st.context known) (users_plain (log_of range) b.stand b.sent known))) acted.rule.step.asked in
+            λ laid. steps.stepped generation nodes target c y x s cell st at is range founded i (fresh_alone i free) begun near (fresh_recorded i ((begun.history s range).append kinds.Metadata) free) (fresh_began i ((begun.history s range).append kinds.Log) free) (alone_step o) [] [] acted
+            ps (may_send_all ps (from_servers ps senders)) waits asked (λ none. refl) (λ none. absurd (let never : Some next ≡ None = none in cc)) (no_lists i o.after a b ps asked)
+            (λ j apart. (
+              builds_aside generation range i w o.after None a b (metadata_of j) (λ body never. absurd never) ps asked,
+              builds_aside generation range i w o.after None a b (log_of j) (λ body never. absurd never) ps asked,
+            )) (none_from_map ps (from_servers ps senders))
             (opened st range (generation i) until) refl inserted
+            (record { ascending = ascending_left st.splits range None run.splits_ascending; here = dropped_here st.splits range run.splits_ascending; others = λ j apart. dropped_other st.splits range j apart }) laid
 
       -- the server begins the load, under this generation, and is left so
       abbrev loads : Option RangeState → ServerState → ℕ → ServerOutcome
@@ -209,14 +256,14 @@ module _ (generation : ℕ → ℕ) (plenty : (g n : ℕ) → (i : ℕ) × (n �
 
     -- ---- a range that the server has
 
-    module _ (range : ℕ) (r : RangeState) (found : range_of st.ranges range ≡ Some r) where
-      held : IsHeld generation nodes target x.moves range (x.machines range) (y.history s range) (x.incarnation s range) r
-      held = run.held range r found
+    module _ (range : ℕ) (r : RangeState) (found : range_of st.ranges range ≡ Some r) (unsplit : split_of st.splits range ≡ None) where
+      held : IsHeld generation nodes target x.moves range (x.machines range) (y.history s range) (x.incarnation s range) None r
+      held = subst (λ job. IsHeld generation nodes target x.moves range (x.machines range) (y.history s range) (x.incarnation s range) job r) unsplit (run.held range r found)
 
       abbrev i : ℕ
       i = held.incarnation
 
-      h : Holds generation nodes target x.moves range (x.machines range) (y.history s range) i r
+      h : Holds generation nodes target x.moves range (x.machines range) (y.history s range) i None r
       h = held.holds
 
       alone : (t j : ℕ) → x.incarnation t j ≡ Some i → (t ≡ s) × (j ≡ range)
@@ -225,67 +272,85 @@ module _ (generation : ℕ → ℕ) (plenty : (g n : ℕ) → (i : ℕ) × (n �
       held_here : HeldAt c.servers s range r
       held_here = record { cell = cell; state = st; there = at; up = is; found = found }
 
+      founded_held : IsFounded c.stream_layer range
+      founded_held = (held.counted, x.there s range r held_here)
+
       -- what its row data waits for
-      out : (q : ReqNo) → awaits r.rows.job q ≡ true → RowsOut generation c.servers x.machines c.stream_layer.post s range r q
-      out q waits = x.rows s range r held_here q waits
+      out : (q : ReqNo) → awaits r.rows.job q ≡ true → Out generation c.servers x.machines c.stream_layer.post s range OfRows q
+      out q waits = x.out s range OfRows q (r, held_here, waits)
 
       past : IsPastRows st.context r
-      past n from waits = steps.not_used generation nodes target c y x s cell st at is n from (out (requests.Server st.context.server st.context.session n) waits).past
+      past n from waits = numbers.not_used generation nodes target c y x s cell st at is n from (out (requests.Server st.context.server st.context.session n) waits).past
 
       rows_asked : (q : ReqNo) → awaits r.rows.job q ≡ true → (server : ℕ) (to : ActorId) (b : Body) → Contains w.post (packet (Server server) to b) → asked_number b ≡ Some q → AsksBy r.rows b
-      rows_asked q waits server to b there number = (out q waits).asked server to b (subst (λ (z : StreamSystem). Contains z.post (packet (Server server) to b)) x.leads there) number
+      rows_asked q waits server to b there number = (out q waits).asked server to b (subst (λ (z : StreamSystem). Contains z.post (packet (Server server) to b)) x.leads there) (asked_used b q number) r held_here
 
       unread : ReadsNothing r.rows.job
       unread = rows_unread range w (x.machines range).m_sent (x.machines range).l_sent r.rows.job h.follows.rows.job
 
       -- what a rule leaves of it
-      rows_after : (o : RangeOutcome) (actions : List StreamAction) → Done generation nodes target c y x range held.counted i st.context (view_at range y s) o actions → LeavesRows st.context r.rows o → steps.RowsAfter st range o o.packets
+      rows_after : (o : RangeOutcome) (actions : List StreamAction) → Done generation nodes target c y x range founded_held i st.context (view_at range y s) o actions → LeavesRows st.context r.rows o → StepWaits st range (alone_step o) o.packets
       rows_after o actions k left next is_next =
           let have : RowsIf st.context r.rows o.count o.packets (Some next) = subst (λ a. RowsIf st.context r.rows o.count o.packets a) is_next left in
-          let after : FollowsIf generation range w i (Some next) (going.m_after generation nodes target x.moves range (x.machines range) i st.context o k.rule.goes) (going.l_after generation nodes target x.moves range (x.machines range) i st.context o k.rule.goes) =
-          subst (λ a. FollowsIf generation range w i a (going.m_after generation nodes target x.moves range (x.machines range) i st.context o k.rule.goes) (going.l_after generation nodes target x.moves range (x.machines range) i st.context o k.rule.goes)) is_next k.rule.goes.then in
-          (from have.0 (after.rows.stream ∙ sym h.follows.rows.stream), have.1)
+          let after : FollowsIf generation range w i (Some next) (record { stand = after_turns generation i (m_side generation (x.machines range) i).stand k.rule.goes.metadata_turns; sent = k.rule.goes.metadata_sent }) (record { stand = after_turns generation i (l_side generation (x.machines range) i).stand k.rule.goes.log_turns; sent = k.rule.goes.log_sent }) =
+          subst (λ a. FollowsIf generation range w i a (record { stand = after_turns generation i (m_side generation (x.machines range) i).stand k.rule.goes.metadata_turns; sent = k.rule.goes.metadata_sent }) (record { stand = after_turns generation i (l_side generation (x.machines range) i).stand k.rule.goes.log_turns; sent = k.rule.goes.log_sent })) is_next k.rule.goes.then in
+          record {
+            rows = from next have.0 (after.rows.stream ∙ sym h.follows.rows.stream);
+            seal = λ later has. absurd cc;
+            call = λ later has. absurd cc;
+            steady = inr (λ later has. absurd cc);
+            sent = clients_send next None o.packets have.1;
+          }
         where
-          from : RowsFrom st.context r.rows o.count next.rows → next.rows.stream ≡ r.rows.stream → (q : ReqNo) → awaits next.rows.job q ≡ true →
-              ((k : RangeState) × (range_of st.ranges range ≡ Some k) × WasOut k.rows next.rows) ⊎ IsNew st.context o.count q
-          from (inl (inl idle)) stream q waits = absurd (let z : false ≡ true = sym (ap (λ j. awaits j q) idle) ∙ waits in cc)
-          from (inl (inr same)) stream q waits = inl (r, found, record { job = same.0; group = same.1; stream = stream })
-          from (inr fresh) stream q waits = inr (fresh q waits)
+          from : (next : RangeState) → RowsFrom st.context r.rows o.count next.rows → next.rows.stream ≡ r.rows.stream → (q : ReqNo) → awaits next.rows.job q ≡ true → RowsWaited st range next q ⊎ IsNew st.context o.count q
+          from next (inl (inl idle)) stream q waits = absurd (let z : false ≡ true = sym (ap (λ j. awaits j q) idle) ∙ waits in cc)
+          from next (inl (inr same)) stream q waits = inl (r, found, record { job = same.0; group = same.1; stream = stream })
+          from next (inr fresh) stream q waits = inr (fresh q waits)
 
-      alone_good : (o : RangeOutcome) (actions : List StreamAction) → Done generation nodes target c y x range held.counted i st.context (view_at range y s) o actions → AllFromRanges o.packets → LeavesRows st.context r.rows o →
+      -- a range that is dropped tells its users alone
+      gone_asks : (o : RangeOutcome) → LeavesRows st.context r.rows o → o.after ≡ None → (p : Packet) → Contains o.packets p → (q : ReqNo) → used_number p.body ≡ Some q → asked_number p.body ≡ Some q
+      gone_asks o left gone p there q number =
+          let all : (n : RangeState) → AllIn n o.packets = subst (λ a. RowsIf st.context r.rows o.count o.packets a) gone left in
+          in_used r p.body q (sent_in r None o.packets (clients_send r None o.packets (all r)) p there) number
+
+      alone_good : (o : RangeOutcome) (actions : List StreamAction) → Done generation nodes target c y x range founded_held i st.context (view_at range y s) o actions → AllFromRanges o.packets → LeavesRows st.context r.rows o →
           Good (Does range r.load.generation actions) (stepped_alone st range o)
       alone_good o actions k senders left =
           subst (λ g. Good (Does range g actions) (stepped_alone st range o)) (sym h.follows.under)
-          (done_good range held.counted i alone h.record_append h.append o actions k senders (rows_after o actions k left) (stepped_alone st range o).after refl
+          (done_good range founded_held unsplit i alone h.record_append h.append o actions k senders (rows_after o actions k left) (gone_asks o left) (stepped_alone st range o).after refl
           (record {
             ascending = ascending_left st.ranges range o.after run.ascending;
             here = λ u there. sym (left_here st.ranges range r o.after run.ascending found) ∙ there;
+            there = λ u is_next. left_here st.ranges range r o.after run.ascending found ∙ is_next;
             others = λ j apart. left_other st.ranges range o.after j apart;
-          }))
+          }) refl)
 
-      step_good : (o : RangeOutcome) (actions : List StreamAction) → Done generation nodes target c y x range held.counted i st.context (view_at range y s) o actions → AllFromRanges o.packets → LeavesRows st.context r.rows o →
+      -- ---- one that is not being split
+
+      step_good : (o : RangeOutcome) (actions : List StreamAction) → Done generation nodes target c y x range founded_held i st.context (view_at range y s) o actions → AllFromRanges o.packets → LeavesRows st.context r.rows o →
           Good (Does range r.load.generation actions) (stepped st range o)
-      step_good o actions k senders left = subst (Good (Does range r.load.generation actions)) (sym (stepped_is st none whole range o)) (alone_good o actions k senders left)
+      step_good o actions k senders left = subst (Good (Does range r.load.generation actions)) (sym (stepped_alone_is st range unsplit whole o)) (alone_good o actions k senders left)
 
       transact_held : (p : Packet) (changes : List Change) (q : ReqNo) → Good (transact_effect st p range changes q (Some r)) (transacts_in st p range changes q (Some r))
       transact_held p changes q =
-          subst (λ e. Good e (transacts_in st p range changes q (Some r))) (sym (transact_effect_is st none p range changes q r))
+          subst (λ e. Good e (transacts_in st p range changes q (Some r))) (sym (transact_effect_alone st range unsplit p changes q r))
           (step_good (transact_rule st.context r p.from q changes) (transact_actions r (transact_rule st.context r p.from q changes))
-          (transact_done generation nodes target c y x range held.counted i st.context (by range held.counted) (view_at range y s) (seen_here range) r h past p.from q changes) (transact_tidy st.context r p.from q changes).0
+          (transact_done generation nodes target c y x range founded_held i st.context (by range founded_held) (view_at range y s) (seen_here range) r h.follows h.read past p.from q changes) (transact_tidy st.context r p.from q changes).0
           (transact_leaves st.context r p.from q changes))
 
-      get_held : (p : Packet) (key : List ℕ) (q : ReqNo) → Good Rests (gets_in st p range key q (Some r))
+      get_held : (p : Packet) (key : List ℕ) (q : ReqNo) → Good (get_effect st p range key q (Some r)) (gets_in st p range key q (Some r))
       get_held p key q =
-          step_good (get_rule st.context r p.from q key) [] (get_done generation nodes target c y x range held.counted i st.context (by range held.counted) (view_at range y s) (seen_here range) r h past p.from q key)
-          (get_tidy st.context r p.from q key).0 (get_leaves st.context r p.from q key)
+          subst (λ e. Good e (gets_in st p range key q (Some r))) (sym (get_effect_alone st range unsplit p key q r))
+          (step_good (get_rule st.context r p.from q key) [] (get_done generation nodes target c y x range founded_held i st.context (by range founded_held) (view_at range y s) (seen_here range) r h.follows h.read past p.from q key)
+          (get_tidy st.context r p.from q key).0 (get_leaves st.context r p.from q key))
 
       answer_held : (p : Packet) → Contains w.post (packet p.from (Server s) p.body) → is_answerer p.from p.body ≡ true → (v : ReqNo) → answered_number p.body ≡ Some v →
           Good (answer_effect st p v range (Some r)) (answer_in st p v range (Some r))
       answer_held p there gives v number =
-          subst (λ e. Good e (answer_in st p v range (Some r))) (sym (answer_effect_is st none p v range r))
-          (subst (Good (Does range r.load.generation actions)) (sym (answer_is st none whole p v range r))
+          subst (λ e. Good e (answer_in st p v range (Some r))) (sym (answer_effect_alone st range unsplit p v r))
+          (subst (Good (Does range r.load.generation actions)) (sym (answer_alone st range unsplit whole p v r))
           (alone_good o actions
-          (answer_done generation nodes target c y x range held.counted i st.context (by range held.counted) (view_at range y s) (seen_here range) r h past rows_asked p.from s p.body there gives v number) (answer_shows st.context r v p.body).0
+          (answer_done generation nodes target c y x range founded_held i st.context (by range founded_held) (view_at range y s) (seen_here range) r h.follows h.read past rows_asked p.from s p.body there gives v number) (answer_shows st.context r v p.body).0
           (answer_leaves st.context r v p.body)))
         where
           o : RangeOutcome
@@ -301,8 +366,8 @@ module _ (generation : ℕ → ℕ) (plenty : (g n : ℕ) → (i : ℕ) × (n �
         where
           go : (b : Bool) → Good Rests (if b then given_up st range (merge_with st.merges range) (give_up_all st.context r) else rests st)
           go true =
-              subst (Good Rests) (sym (given_up_is st none whole range (give_up_all st.context r)))
-              (alone_good (give_up_all st.context r) [] (give_up_done generation nodes target c y x range held.counted i st.context (by range held.counted) (view_at range y s) (seen_here range) r h past) (give_up_tidy st.context r).0
+              subst (Good Rests) (sym (given_up_alone st range unsplit whole (give_up_all st.context r)))
+              (alone_good (give_up_all st.context r) [] (give_up_done generation nodes target c y x range founded_held i st.context (by range founded_held) (view_at range y s) (seen_here range) r h.follows h.read past) (give_up_tidy st.context r).0
               (give_up_leaves st.context r unread))
           go false = rests_good
 
@@ -312,109 +377,173 @@ module _ (generation : ℕ → ℕ) (plenty : (g n : ℕ) → (i : ℕ) × (n �
         where
           go : (b : Bool) → Good Rests (if b then stepped st range (checkpoint_rule st.context r combine) else rests st)
           go true =
-              step_good (checkpoint_rule st.context r combine) [] (checkpoint_done generation nodes target c y x range held.counted i st.context (by range held.counted) (view_at range y s) (seen_here range) r h past combine may)
+              step_good (checkpoint_rule st.context r combine) [] (checkpoint_done generation nodes target c y x range founded_held i st.context (by range founded_held) (view_at range y s) (seen_here range) r h.follows h.read past combine may)
               (checkpoint_tidy st.context r combine).0 (checkpoint_leaves st.context r combine)
           go false = rests_good
 
     -- ---- what a server takes
 
-    transact_good : (p : Packet) (range : ℕ) (changes : List Change) (q : ReqNo) (o : Option RangeState) → range_of st.ranges range ≡ o → Good (transact_effect st p range changes q o) (transacts_in st p range changes q o)
-    transact_good p range changes q None found = refuse_good p.from q
-    transact_good p range changes q (Some r) found = transact_held range r found p changes q
+    -- what is owed of ranges that are being split
+    pub record SplittingStands : Type 0 where
+      pub transacts : (p : Packet) (range : ℕ) (changes : List Change) (q : ReqNo) (r : RangeState) (job : SplitJob) → range_of st.ranges range ≡ Some r → split_of st.splits range ≡ Some job →
+          Good (transact_effect st p range changes q (Some r)) (transacts_in st p range changes q (Some r))
+      pub gets : (p : Packet) (range : ℕ) (key : List ℕ) (q : ReqNo) (r : RangeState) (job : SplitJob) → range_of st.ranges range ≡ Some r → split_of st.splits range ≡ Some job →
+          Good (get_effect st p range key q (Some r)) (gets_in st p range key q (Some r))
+      pub answers : (p : Packet) → Contains w.post (packet p.from (Server s) p.body) → is_answerer p.from p.body ≡ true → (v : ReqNo) → answered_number p.body ≡ Some v → (range : ℕ) (r : RangeState) (job : SplitJob) →
+          range_of st.ranges range ≡ Some r → split_of st.splits range ≡ Some job → Good (answer_effect st p v range (Some r)) (answer_in st p v range (Some r))
+      -- an answer that the split of a range waits for, and no range
+      pub hears : (p : Packet) → Contains w.post (packet p.from (Server s) p.body) → is_answerer p.from p.body ≡ true → (v : ReqNo) → answered_number p.body ≡ Some v → awaiting st.ranges v ≡ None → (range : ℕ) →
+          split_awaiting st.splits v ≡ Some range → Good (split_effect st p (Some range)) (split_answer st p v (Some range))
 
-    get_good : (p : Packet) (range : ℕ) (key : List ℕ) (q : ReqNo) (o : Option RangeState) → range_of st.ranges range ≡ o → Good Rests (gets_in st p range key q o)
-    get_good p range key q None found = refuse_good p.from q
-    get_good p range key q (Some r) found = get_held range r found p key q
+    -- the same where it is told to give up
+    abbrev pub SplittingGivesUp : Type 0
+    SplittingGivesUp = (range : ℕ) (r : RangeState) (job : SplitJob) → range_of st.ranges range ≡ Some r → split_of st.splits range ≡ Some job → Good Rests (given_up st range (merge_with st.merges range) (give_up_all st.context r))
 
-    table_good : (p : Packet) (body : TableBody) → Good (table_effect st p body) (table_rule st p body)
-    table_good p (tables.Transact range changes q) = transact_good p range changes q (range_of st.ranges range) refl
-    table_good p (tables.Get range key q) =
-        subst (λ e. Good e (gets_in st p range key q (range_of st.ranges range))) (sym (get_effect_is st none p range key q (range_of st.ranges range))) (get_good p range key q (range_of st.ranges range) refl)
-    table_good p body = rests_good
+    no_split : st.splits ≡ [] → (range : ℕ) (job : SplitJob) → split_of st.splits range ≡ Some job → ⊥
+    no_split none range job found = let c : None ≡ Some job = sym (ap (λ l. split_of l range) none) ∙ found in cc
 
-    answer_good : (p : Packet) → Contains w.post (packet p.from (Server s) p.body) → is_answerer p.from p.body ≡ true → (v : ReqNo) → answered_number p.body ≡ Some v → (range : ℕ) (o : Option RangeState) →
-        range_of st.ranges range ≡ o → Good (answer_effect st p v range o) (answer_in st p v range o)
-    answer_good p there gives v number range None found = rests_good
-    answer_good p there gives v number range (Some r) found = answer_held range r found p there gives v number
+    -- nothing is owed where none is being split
+    pub none_stands : st.splits ≡ [] → SplittingStands
+    none_stands none = record {
+      transacts = λ p range changes q r job found job_is. absurd (no_split none range job job_is);
+      gets = λ p range key q r job found job_is. absurd (no_split none range job job_is);
+      answers = λ p there gives v number range r job found job_is. absurd (no_split none range job job_is);
+      hears = λ p there gives v number nobody range waits. absurd (let c : None ≡ Some range = sym (ap (λ l. split_awaiting l v) none) ∙ waits in cc);
+    }
 
-    awaited_good : (p : Packet) → Contains w.post (packet p.from (Server s) p.body) → is_answerer p.from p.body ≡ true → (v : ReqNo) → answered_number p.body ≡ Some v → (o : Option ℕ) →
-        Good (awaited_effect st p v o) (answer_of st p v o)
-    awaited_good p there gives v number None =
-        subst (λ e. Good e (answer_of st p v None)) (sym (unawaited_effect st none p v)) (subst (Good Rests) (sym (unawaited st none whole p v)) rests_good)
-    awaited_good p there gives v number (Some range) = answer_good p there gives v number range (range_of st.ranges range) refl
+    pub none_gives_up : st.splits ≡ [] → SplittingGivesUp
+    none_gives_up none range r job found job_is = absurd (no_split none range job job_is)
 
-    numbered_good : (p : Packet) → Contains w.post (packet p.from (Server s) p.body) → (o : Option ReqNo) → answered_number p.body ≡ o → Good (numbered_effect st p o) (numbered_rule st p o)
-    numbered_good p there None e = rests_good
-    numbered_good p there (Some v) e = go (is_answerer p.from p.body) refl
+    module _ (splitting : SplittingStands) where
+      transact_good : (p : Packet) (range : ℕ) (changes : List Change) (q : ReqNo) (o : Option RangeState) → range_of st.ranges range ≡ o → Good (transact_effect st p range changes q o) (transacts_in st p range changes q o)
+      transact_good p range changes q None found = refuse_good p.from q
+      transact_good p range changes q (Some r) found = go (split_of st.splits range) refl
+        where
+          go : (job : Option SplitJob) → split_of st.splits range ≡ job → Good (transact_effect st p range changes q (Some r)) (transacts_in st p range changes q (Some r))
+          go None is_it = transact_held range r found is_it p changes q
+          go (Some job) is_it = splitting.transacts p range changes q r job found is_it
+
+      get_good : (p : Packet) (range : ℕ) (key : List ℕ) (q : ReqNo) (o : Option RangeState) → range_of st.ranges range ≡ o → Good (get_effect st p range key q o) (gets_in st p range key q o)
+      get_good p range key q None found = refuse_good p.from q
+      get_good p range key q (Some r) found = go (split_of st.splits range) refl
+        where
+          go : (job : Option SplitJob) → split_of st.splits range ≡ job → Good (get_effect st p range key q (Some r)) (gets_in st p range key q (Some r))
+          go None is_it = get_held range r found is_it p key q
+          go (Some job) is_it = splitting.gets p range key q r job found is_it
+
+      table_good : (p : Packet) (body : TableBody) → Good (table_effect st p body) (table_rule st p body)
+      table_good p (tables.Transact range changes q) = transact_good p range changes q (range_of st.ranges range) refl
+      table_good p (tables.Get range key q) = get_good p range key q (range_of st.ranges range) refl
+      table_good p body = rests_good
+
+      answer_good : (p : Packet) → Contains w.post (packet p.from (Server s) p.body) → is_answerer p.from p.body ≡ true → (v : ReqNo) → answered_number p.body ≡ Some v → (range : ℕ) (o : Option RangeState) →
+          range_of st.ranges range ≡ o → Good (answer_effect st p v range o) (answer_in st p v range o)
+      answer_good p there gives v number range None found = rests_good
+      answer_good p there gives v number range (Some r) found = go (split_of st.splits range) refl
+        where
+          go : (job : Option SplitJob) → split_of st.splits range ≡ job → Good (answer_effect st p v range (Some r)) (answer_in st p v range (Some r))
+          go None is_it = answer_held range r found is_it p there gives v number
+          go (Some job) is_it = splitting.answers p there gives v number range r job found is_it
+
+      -- no range waits for it
+      unawaited_good : (p : Packet) → Contains w.post (packet p.from (Server s) p.body) → is_answerer p.from p.body ≡ true → (v : ReqNo) → answered_number p.body ≡ Some v → awaiting st.ranges v ≡ None → (o : Option ℕ) →
+          split_awaiting st.splits v ≡ o → Good (split_effect st p o) (split_answer st p v o)
+      unawaited_good p there gives v number nobody None waits = subst (Good Rests) (sym (unawaited_merge st whole p v)) rests_good
+      unawaited_good p there gives v number nobody (Some range) waits = splitting.hears p there gives v number nobody range waits
+
+      awaited_good : (p : Packet) → Contains w.post (packet p.from (Server s) p.body) → is_answerer p.from p.body ≡ true → (v : ReqNo) → answered_number p.body ≡ Some v → (o : Option ℕ) → awaiting st.ranges v ≡ o →
+          Good (awaited_effect st p v o) (answer_of st p v o)
+      awaited_good p there gives v number None nobody = unawaited_good p there gives v number nobody (split_awaiting st.splits v) refl
+      awaited_good p there gives v number (Some range) somebody = answer_good p there gives v number range (range_of st.ranges range) refl
+
+      numbered_good : (p : Packet) → Contains w.post (packet p.from (Server s) p.body) → (o : Option ReqNo) → answered_number p.body ≡ o → Good (numbered_effect st p o) (numbered_rule st p o)
+      numbered_good p there None e = rests_good
+      numbered_good p there (Some v) e = go (is_answerer p.from p.body) refl
+        where
+          go : (b : Bool) → is_answerer p.from p.body ≡ b → Good (if b then awaited_effect st p v (awaiting st.ranges v) else Rests) (if b then answer_of st p v (awaiting st.ranges v) else rests st)
+          go true gives = awaited_good p there gives v e (awaiting st.ranges v) refl
+          go false gives = rests_good
+
+      -- what the map tells of leases is of a range with a number
+      word_good : (body : MapBody) → IsMapWord c.stream_layer body → Good (told_effect st body) (told_by_map st body)
+      word_good (maps.Assign range g until) word = assign_good range word (range_of st.ranges range) g until
+      word_good (maps.Renew range g until) word = λ laid. renew_stands generation nodes target c s cell st at is range g until y x
+      word_good body word = rests_good
+
+      from_map_good : (p : Packet) (body : MapBody) → p.body ≡ bodies.Map body → Contains c.stream_layer.post p → Good (map_effect st p.from body) (map_rule st p.from body)
+      from_map_good p body e there = go p.from refl
+        where
+          told : p.from ≡ Map → Good (told_effect st body) (told_by_map st body)
+          told from_it =
+              word_good body (subst (IsWord c.stream_layer) e (x.from_map p.to p.body (subst (λ z. Contains c.stream_layer.post (packet z p.to p.body)) from_it there)))
+
+          go : (f : ActorId) → p.from ≡ f → Good (map_effect st f body) (map_rule st f body)
+          go Map from_it = told from_it
+          go (actors.Node n) from_it = rests_good
+          go actors.Manager from_it = rests_good
+          go (Server t) from_it = rests_good
+          go (actors.User u) from_it = rests_good
+
+      taken_body : (p : Packet) → Contains c.stream_layer.post p → p.to ≡ Server s → (b : Body) → p.body ≡ b → Good (packet_effect st p b) (taken_rule st p b)
+      taken_body p there to b e = go b e
+        where
+          in_post : Contains w.post (packet p.from (Server s) p.body)
+          in_post = subst (λ z. Contains w.post (packet p.from z p.body)) to (subst (λ (z : StreamSystem). Contains z.post p) (sym x.leads) there)
+
+          go : (b : Body) → p.body ≡ b → Good (packet_effect st p b) (taken_rule st p b)
+          go (bodies.Map (maps.Assign range g until)) e = from_map_good p (maps.Assign range g until) e there
+          go (bodies.Map (maps.Renew range g until)) e = from_map_good p (maps.Renew range g until) e there
+          go (bodies.Map body) e = numbered_good p in_post (answered_number (bodies.Map body)) (ap answered_number e)
+          go (bodies.Table body) e = table_good p body
+          go (bodies.Append body) e = numbered_good p in_post (answered_number (bodies.Append body)) (ap answered_number e)
+          go (bodies.Check body) e = numbered_good p in_post (answered_number (bodies.Check body)) (ap answered_number e)
+          go (bodies.Seal body) e = numbered_good p in_post (answered_number (bodies.Seal body)) (ap answered_number e)
+          go (bodies.Read body) e = numbered_good p in_post (answered_number (bodies.Read body)) (ap answered_number e)
+          go (bodies.Stream body) e = numbered_good p in_post (answered_number (bodies.Stream body)) (ap answered_number e)
+
+      rule_good : (p : Packet) → Contains c.stream_layer.post p → p.to ≡ Server s → Good (server_effect p (Some st)) (server_rule st p p.body)
+      rule_good p there to = go (has_numbers st.context)
+        where
+          go : (b : Bool) → Good (if b then packet_effect st p p.body else Rests) (if b then taken_rule st p p.body else rests st)
+          go true = taken_body p there to p.body refl
+          go false = rests_good
+
+    give_up_rule_good : SplittingGivesUp → (range : ℕ) (o : ServerOutcome) → gives_up st range (range_of st.ranges range) ≡ Some o → Good Rests o
+    give_up_rule_good splitting range o e = go (range_of st.ranges range) refl e
       where
-        go : (b : Bool) → is_answerer p.from p.body ≡ b → Good (if b then awaited_effect st p v (awaiting st.ranges v) else Rests) (if b then answer_of st p v (awaiting st.ranges v) else rests st)
-        go true gives = awaited_good p there gives v e (awaiting st.ranges v)
-        go false gives = rests_good
+        by_numbers : (r : RangeState) → range_of st.ranges range ≡ Some r → (job : SplitJob) → split_of st.splits range ≡ Some job → (b : Bool) →
+            Some (if b then given_up st range (merge_with st.merges range) (give_up_all st.context r) else rests st) ≡ Some o → Good Rests o
+        by_numbers r found job job_is true same = subst (Good Rests) (same_Some _ o same) (splitting range r job found job_is)
+        by_numbers r found job job_is false same = subst (Good Rests) (same_Some _ o same) rests_good
 
-    -- what the map tells of leases is of a range with a number
-    word_good : (body : MapBody) → IsMapWord body → Good (told_effect st body) (told_by_map st body)
-    word_good (maps.Assign range g until) word = assign_good range (word_counted range word) (range_of st.ranges range) g until
-    word_good (maps.Renew range g until) word = λ laid. renew_stands generation nodes target c s cell st at is range g until y x
-    word_good body word = rests_good
+        by_job : (r : RangeState) → range_of st.ranges range ≡ Some r → (job : Option SplitJob) → split_of st.splits range ≡ job → gives_up st range (Some r) ≡ Some o → Good Rests o
+        by_job r found None job_is same = give_up_held range r found job_is o same
+        by_job r found (Some job) job_is same = by_numbers r found job job_is (has_numbers st.context) same
 
-    from_map_good : (p : Packet) (body : MapBody) → p.body ≡ bodies.Map body → Contains c.stream_layer.post p → Good (map_effect st p.from body) (map_rule st p.from body)
-    from_map_good p body e there = go p.from refl
-      where
-        told : p.from ≡ Map → Good (told_effect st body) (told_by_map st body)
-        told from_it =
-            word_good body (subst IsWord e (x.from_map p.to p.body (subst (λ z. Contains c.stream_layer.post (packet z p.to p.body)) from_it there)))
-
-        go : (f : ActorId) → p.from ≡ f → Good (map_effect st f body) (map_rule st f body)
-        go Map from_it = told from_it
-        go (actors.Node n) from_it = rests_good
-        go actors.Manager from_it = rests_good
-        go (Server t) from_it = rests_good
-        go (actors.User u) from_it = rests_good
-
-    taken_body : (p : Packet) → Contains c.stream_layer.post p → p.to ≡ Server s → (b : Body) → p.body ≡ b → Good (packet_effect st p b) (taken_rule st p b)
-    taken_body p there to b e = go b e
-      where
-        in_post : Contains w.post (packet p.from (Server s) p.body)
-        in_post = subst (λ z. Contains w.post (packet p.from z p.body)) to (subst (λ (z : StreamSystem). Contains z.post p) (sym x.leads) there)
-
-        go : (b : Body) → p.body ≡ b → Good (packet_effect st p b) (taken_rule st p b)
-        go (bodies.Map (maps.Assign range g until)) e = from_map_good p (maps.Assign range g until) e there
-        go (bodies.Map (maps.Renew range g until)) e = from_map_good p (maps.Renew range g until) e there
-        go (bodies.Map body) e = numbered_good p in_post (answered_number (bodies.Map body)) (ap answered_number e)
-        go (bodies.Table body) e = table_good p body
-        go (bodies.Append body) e = numbered_good p in_post (answered_number (bodies.Append body)) (ap answered_number e)
-        go (bodies.Check body) e = numbered_good p in_post (answered_number (bodies.Check body)) (ap answered_number e)
-        go (bodies.Seal body) e = numbered_good p in_post (answered_number (bodies.Seal body)) (ap answered_number e)
-        go (bodies.Read body) e = numbered_good p in_post (answered_number (bodies.Read body)) (ap answered_number e)
-        go (bodies.Stream body) e = numbered_good p in_post (answered_number (bodies.Stream body)) (ap answered_number e)
-
-    rule_good : (p : Packet) → Contains c.stream_layer.post p → p.to ≡ Server s → Good (server_effect p (Some st)) (server_rule st p p.body)
-    rule_good p there to = go (has_numbers st.context)
-      where
-        go : (b : Bool) → Good (if b then packet_effect st p p.body else Rests) (if b then taken_rule st p p.body else rests st)
-        go true = taken_body p there to p.body refl
-        go false = rests_good
-
-    give_up_rule_good : (range : ℕ) (o : ServerOutcome) → gives_up st range (range_of st.ranges range) ≡ Some o → Good Rests o
-    give_up_rule_good range o e = go (range_of st.ranges range) refl e
-      where
         go : (known : Option RangeState) → range_of st.ranges range ≡ known → gives_up st range known ≡ Some o → Good Rests o
         go None found is_it = absurd cc
-        go (Some r) found is_it = give_up_held range r found o is_it
+        go (Some r) found is_it = by_job r found (split_of st.splits range) refl is_it
 
+    -- a range that is being split makes no checkpoint
     checkpoint_good : (range : ℕ) (combine : Bool) → Good Rests (server_checkpoint st range combine)
     checkpoint_good range combine = by_range (range_of st.ranges range) refl
       where
-        jobs : Bool
-        jobs = has_jobs st range
+        busy : (job : SplitJob) → split_of st.splits range ≡ Some job → (fault : Option Refusal) → busy_if (has_jobs st range) fault ≡ None → ⊥
+        busy job job_is (Some why) free = let c : Some why ≡ None = free in cc
+        busy job job_is None free =
+            let c : Some refusals.Busy ≡ None = sym (ap (λ b. busy_if b None) (jobs_unmerged st whole range ∙ ap is_some job_is)) ∙ free in cc
 
-        by_fault : (r : RangeState) → range_of st.ranges range ≡ Some r → (fault : Option Refusal) → busy_if jobs (checkpoint_fault r) ≡ fault → Good Rests (if is_some fault then rests st else checkpoints_in st range combine (Some r))
-        by_fault r found None may = checkpoint_held range r found combine (not_refused jobs (checkpoint_fault r) may)
+        by_job : (r : RangeState) → range_of st.ranges range ≡ Some r → busy_if (has_jobs st range) (checkpoint_fault r) ≡ None → (job : Option SplitJob) → split_of st.splits range ≡ job → Good Rests (checkpoints_in st range combine (Some r))
+        by_job r found may None job_is = checkpoint_held range r found job_is combine (not_refused (has_jobs st range) (checkpoint_fault r) may)
+        by_job r found may (Some job) job_is = absurd (busy job job_is (checkpoint_fault r) may)
+
+        by_fault : (r : RangeState) → range_of st.ranges range ≡ Some r → (fault : Option Refusal) → busy_if (has_jobs st range) (checkpoint_fault r) ≡ fault → Good Rests (if is_some fault then rests st else checkpoints_in st range combine (Some r))
+        by_fault r found None may = by_job r found may (split_of st.splits range) refl
         by_fault r found (Some why) refused = rests_good
 
-        by_range : (known : Option RangeState) → range_of st.ranges range ≡ known → Good Rests (if is_some (checkpoint_refused jobs known) then rests st else checkpoints_in st range combine known)
+        by_range : (known : Option RangeState) → range_of st.ranges range ≡ known → Good Rests (if is_some (checkpoint_refused (has_jobs st range) known) then rests st else checkpoints_in st range combine known)
         by_range None found = rests_good
-        by_range (Some r) found = by_fault r found (busy_if jobs (checkpoint_fault r)) refl
+        by_range (Some r) found = by_fault r found (busy_if (has_jobs st range) (checkpoint_fault r)) refl
 
   -- ---- events
 
@@ -426,7 +555,8 @@ module _ (generation : ℕ → ℕ) (plenty : (g n : ℕ) → (i : ℕ) × (n �
       (cell_stands generation nodes target c y s (λ z. z) (λ z n k past. past) (λ z st found up. still_runs c.servers s z st found up) x)
 
   -- a server takes a packet
-  module _ (c : Cluster) (y : ServerRun) (x : Standing generation nodes target c y) (unsplit : HaveNoJobs c.servers) (s : ℕ) (p : Packet) (there : Contains c.stream_layer.post p) (to : p.to ≡ Server s) where
+  module _ (c : Cluster) (y : ServerRun) (x : Standing generation nodes target c y) (whole : HaveNoMerges c.servers) (s : ℕ) (p : Packet) (there : Contains c.stream_layer.post p) (to : p.to ≡ Server s)
+      (splitting : (cell : ServerCell) (at : entry_at c.servers s ≡ Some cell) (st : ServerState) (is : cell.state ≡ Some st) → SplittingStands c y x s cell st at is (whole s cell at st is)) where
     -- a cluster after this, and the run where servers do this with streams
     abbrev Took : RangeEffect → ServersOutcome → ServersOutcome → Type 0
     Took effect o seen = IsLaid (with_outcome (with_effect s y effect) seen) →
@@ -437,7 +567,10 @@ module _ (generation : ℕ → ℕ) (plenty : (g n : ℕ) → (i : ℕ) × (n �
 
     state_takes : (cell : ServerCell) → entry_at c.servers s ≡ Some cell → (o : Option ServerState) → cell.state ≡ o → Took (server_effect p o) (cell_after cell o) (cell_after cell o)
     state_takes cell at None is = λ laid. stopped c y x s cell at
-    state_takes cell at (Some st) is = rule_good c y x s cell st at is (unsplit s cell at st is) p there to
+    state_takes cell at (Some st) is =
+        let o : ServerOutcome = server_rule st p p.body in
+        let run : ServerRun = with_outcome (with_effect s y (server_effect p (Some st))) (cell_after cell (Some st)) in
+        λ laid. rule_good c y x s cell st at is (whole s cell at st is) (splitting cell at st is) p there to (laid_behind run (with_effect s y (server_effect p (Some st))).notes o.notes refl laid)
 
     cell_takes_so : (o : Option ServerCell) → entry_at c.servers s ≡ o →
         Took (cell_effect p o) (at_server c.servers s (λ cell. cell_takes cell p cell.state) o) (at_server c.servers s (λ cell. cell_takes cell p cell.state) o)
@@ -449,7 +582,32 @@ module _ (generation : ℕ → ℕ) (plenty : (g n : ℕ) → (i : ℕ) × (n �
         subst (λ l. Took (cell_effect p (entry_at l s)) (server_takes c.servers s p) (server_takes l s p)) x.cells (cell_takes_so (entry_at c.servers s) refl)
 
   -- a server is told to give up
-  module _ (c : Cluster) (y : ServerRun) (x : Standing generation nodes target c y) (unsplit : HaveNoJobs c.servers) (s range : ℕ) (pick : Nodes) where
+  module _ (c : Cluster) (y : ServerRun) (x : Standing generation nodes target c y) (whole : HaveNoMerges c.servers) (s range : ℕ) (pick : Nodes) where
+    -- it has other nodes for new extents
+    abbrev pub picked_cell : ServerCell → ServerState → ServerCell
+    picked_cell cell st = record cell { state = Some (picked st pick) }
+
+    abbrev pub picked_cluster : ServerCell → ServerState → Cluster
+    picked_cluster cell st = record c { servers = slice_set c.servers (s - 1) (picked_cell cell st) }
+
+    abbrev pub picked_run : ServerCell → ServerState → ServerRun
+    picked_run cell st = record y { servers = slice_set c.servers (s - 1) (picked_cell cell st) }
+
+    pub picked_stands : (cell : ServerCell) (at : entry_at c.servers s ≡ Some cell) (st : ServerState) (is : cell.state ≡ Some st) → Standing generation nodes target (picked_cluster cell st) (picked_run cell st)
+    picked_stands cell at st is = picks_stand generation nodes target c s cell st at is (if has_numbers st.context then pick else st.context.pick) y x
+
+    -- what is owed of ranges that are being split
+    abbrev pub SplittingGivesUpThen : Type 0
+    SplittingGivesUpThen =
+        (cell : ServerCell) (at : entry_at c.servers s ≡ Some cell) (st : ServerState) (is : cell.state ≡ Some st) →
+        SplittingGivesUp (picked_cluster cell st) (picked_run cell st) (picked_stands cell at st is) s (picked_cell cell st) (picked st pick) (entry_set c.servers s cell (picked_cell cell st) at) refl (whole s cell at st is)
+
+    -- nothing, where none is
+    pub none_gives_up_then : ((cell : ServerCell) (at : entry_at c.servers s ≡ Some cell) (st : ServerState) (is : cell.state ≡ Some st) → st.splits ≡ []) → SplittingGivesUpThen
+    none_gives_up_then none cell at st is range r job found job_is =
+        none_gives_up (picked_cluster cell st) (picked_run cell st) (picked_stands cell at st is) s (picked_cell cell st) (picked st pick) (entry_set c.servers s cell (picked_cell cell st) at) refl (whole s cell at st is) (none cell at st is)
+        range r job found job_is
+
     abbrev GaveUp : ServersOutcome → ServersOutcome → Type 0
     GaveUp o seen = IsLaid (with_outcome y seen) → Standing generation nodes target (servers_perform c o) (with_outcome y seen)
 
@@ -459,42 +617,40 @@ module _ (generation : ℕ → ℕ) (plenty : (g n : ℕ) → (i : ℕ) × (n �
     abbrev state_after : ServerCell → Option ServerState → ServersOutcome
     state_after cell o = record { servers = slice_set c.servers (s - 1) (cell_gives_up cell range pick o).cell; packets = (cell_gives_up cell range pick o).packets; notes = (cell_gives_up cell range pick o).notes }
 
-    gave_up : (cell : ServerCell) (st : ServerState) → entry_at c.servers s ≡ Some cell → cell.state ≡ Some st → (o : ServerOutcome) →
-        gives_up (picked st pick) range (range_of st.ranges range) ≡ Some o → GaveUp (rule_after cell (Some o)) (rule_after cell (Some o))
-    gave_up cell st at is o e =
-        let now : ServerState = picked st pick in
-        let next : ServerCell = record cell { state = Some now } in
-        let servers : List ServerCell = slice_set c.servers (s - 1) next in
-        let d : Cluster = record c { servers = servers } in
-        let z : ServerRun = record y { servers = servers } in
-        let stands : Standing generation nodes target d z = picks_stand generation nodes target c s cell st at is (if has_numbers st.context then pick else st.context.pick) y x in
-        let given : GaveUp
-        (record { servers = slice_set servers (s - 1) (cell_performs cell o).cell; packets = o.packets; notes = o.notes })
-        (record { servers = slice_set servers (s - 1) (cell_performs cell o).cell; packets = o.packets; notes = o.notes }) =
-        give_up_rule_good d z stands s next now (entry_set c.servers s cell next at) refl (unsplit s cell at st is) range o e in
-        subst (λ l. GaveUp (record { servers = l; packets = o.packets; notes = o.notes }) (record { servers = l; packets = o.packets; notes = o.notes }))
-        (set_twice c.servers (s - 1) next (cell_performs cell o).cell) given
+    module _ (splitting : SplittingGivesUpThen) where
+      gave_up : (cell : ServerCell) (st : ServerState) → entry_at c.servers s ≡ Some cell → cell.state ≡ Some st → (o : ServerOutcome) →
+          gives_up (picked st pick) range (range_of st.ranges range) ≡ Some o → GaveUp (rule_after cell (Some o)) (rule_after cell (Some o))
+      gave_up cell st at is o e =
+          let servers : List ServerCell = slice_set c.servers (s - 1) (picked_cell cell st) in
+          let given : GaveUp
+          (record { servers = slice_set servers (s - 1) (cell_performs cell o).cell; packets = o.packets; notes = o.notes })
+          (record { servers = slice_set servers (s - 1) (cell_performs cell o).cell; packets = o.packets; notes = o.notes }) =
+          λ laid. give_up_rule_good (picked_cluster cell st) (picked_run cell st) (picked_stands cell at st is) s (picked_cell cell st) (picked st pick) (entry_set c.servers s cell (picked_cell cell st) at) refl (whole s cell at st is)
+          (splitting cell at st is) range o e
+          (laid_behind (with_outcome y (record { servers = slice_set servers (s - 1) (cell_performs cell o).cell; packets = o.packets; notes = o.notes })) y.notes o.notes refl laid) in
+          subst (λ l. GaveUp (record { servers = l; packets = o.packets; notes = o.notes }) (record { servers = l; packets = o.packets; notes = o.notes }))
+          (set_twice c.servers (s - 1) (picked_cell cell st) (cell_performs cell o).cell) given
 
-    rule_gives : (cell : ServerCell) (st : ServerState) → entry_at c.servers s ≡ Some cell → cell.state ≡ Some st → (o : Option ServerOutcome) → give_up_rule st range pick ≡ o →
-        GaveUp (rule_after cell o) (rule_after cell o)
-    rule_gives cell st at is None e = λ laid. stopped c y x s cell at
-    rule_gives cell st at is (Some o) e = gave_up cell st at is o e
+      rule_gives : (cell : ServerCell) (st : ServerState) → entry_at c.servers s ≡ Some cell → cell.state ≡ Some st → (o : Option ServerOutcome) → give_up_rule st range pick ≡ o →
+          GaveUp (rule_after cell o) (rule_after cell o)
+      rule_gives cell st at is None e = λ laid. stopped c y x s cell at
+      rule_gives cell st at is (Some o) e = gave_up cell st at is o e
 
-    state_gives : (cell : ServerCell) → entry_at c.servers s ≡ Some cell → (o : Option ServerState) → cell.state ≡ o → GaveUp (state_after cell o) (state_after cell o)
-    state_gives cell at None is = λ laid. stopped c y x s cell at
-    state_gives cell at (Some st) is = rule_gives cell st at is (give_up_rule st range pick) refl
+      state_gives : (cell : ServerCell) → entry_at c.servers s ≡ Some cell → (o : Option ServerState) → cell.state ≡ o → GaveUp (state_after cell o) (state_after cell o)
+      state_gives cell at None is = λ laid. stopped c y x s cell at
+      state_gives cell at (Some st) is = rule_gives cell st at is (give_up_rule st range pick) refl
 
-    cell_gives : (o : Option ServerCell) → entry_at c.servers s ≡ o →
-        GaveUp (at_server c.servers s (λ cell. cell_gives_up cell range pick cell.state) o) (at_server c.servers s (λ cell. cell_gives_up cell range pick cell.state) o)
-    cell_gives None at = λ laid. nobody_stands generation nodes target c y x
-    cell_gives (Some cell) at = state_gives cell at cell.state refl
+      cell_gives : (o : Option ServerCell) → entry_at c.servers s ≡ o →
+          GaveUp (at_server c.servers s (λ cell. cell_gives_up cell range pick cell.state) o) (at_server c.servers s (λ cell. cell_gives_up cell range pick cell.state) o)
+      cell_gives None at = λ laid. nobody_stands generation nodes target c y x
+      cell_gives (Some cell) at = state_gives cell at cell.state refl
 
-    pub gives_up_stands : IsLaid (after_event y (GivesUp s range pick)) →
-        Standing generation nodes target (servers_perform c (server_gives_up c.servers s range pick)) (after_event y (GivesUp s range pick))
-    gives_up_stands = subst (λ l. GaveUp (server_gives_up c.servers s range pick) (server_gives_up l s range pick)) x.cells (cell_gives (entry_at c.servers s) refl)
+      pub gives_up_stands : IsLaid (after_event y (GivesUp s range pick)) →
+          Standing generation nodes target (servers_perform c (server_gives_up c.servers s range pick)) (after_event y (GivesUp s range pick))
+      gives_up_stands = subst (λ l. GaveUp (server_gives_up c.servers s range pick) (server_gives_up l s range pick)) x.cells (cell_gives (entry_at c.servers s) refl)
 
   -- a server is told to make a checkpoint
-  module _ (c : Cluster) (y : ServerRun) (x : Standing generation nodes target c y) (unsplit : HaveNoJobs c.servers) (s range : ℕ) (combine : Bool) where
+  module _ (c : Cluster) (y : ServerRun) (x : Standing generation nodes target c y) (whole : HaveNoMerges c.servers) (s range : ℕ) (combine : Bool) where
     abbrev Made : ServersOutcome → ServersOutcome → Type 0
     Made o seen = IsLaid (with_outcome y seen) → Standing generation nodes target (servers_perform c o) (with_outcome y seen)
 
@@ -508,7 +664,9 @@ module _ (generation : ℕ → ℕ) (plenty : (g n : ℕ) → (i : ℕ) × (n �
 
     state_makes : (cell : ServerCell) → entry_at c.servers s ≡ Some cell → (o : Option ServerState) → cell.state ≡ o → Made (made_after cell o) (made_after cell o)
     state_makes cell at None is = λ laid. stopped c y x s cell at
-    state_makes cell at (Some st) is = checkpoint_good c y x s cell st at is (unsplit s cell at st is) range combine
+    state_makes cell at (Some st) is =
+        let o : ServerOutcome = server_checkpoint st range combine in
+        λ laid. checkpoint_good c y x s cell st at is (whole s cell at st is) range combine (laid_behind (with_outcome y (made_after cell (Some st))) y.notes o.notes refl laid)
 
     cell_makes : (o : Option ServerCell) → entry_at c.servers s ≡ o →
         Made (at_server c.servers s (λ cell. cell_checkpoints cell range combine cell.state) o) (at_server c.servers s (λ cell. cell_checkpoints cell range combine cell.state) o)

@@ -1,6 +1,6 @@
 -- A cluster stands on where a server does a rule of one of its ranges.
-use Rattle.std.proofs.Common.{◌≡◌, ◌⊎◌, ⊎_elim, ℕ, zero, suc, ◌+◌, ◌-◌, ◌≤◌, ◌<◌, Bool, true, false, List, [], ◌∷◌, ◌++◌, length, Option, Some, None, Contains, slice_set, refl, sym, ap, ◌∙◌, subst, inl, inr, arith, if◌then◌else◌, ◌==◌, ◌&&◌}
-use Rattle.std.proofs.lemmas.Bool.{cases_eq, cases_lt}
+use Rattle.std.proofs.Common.{◌≡◌, ◌⊎◌, ⊎_elim, ℕ, suc, ◌+◌, ◌-◌, ◌≤◌, ◌<◌, Bool, true, false, List, [], ◌++◌, Option, Some, None, Contains, slice_set, refl, sym, ap, ◌∙◌, subst, inl, inr, arith, if◌then◌else◌, ◌==◌, ◌&&◌}
+use Rattle.std.proofs.lemmas.Bool.{cases_eq}
 use Rattle.std.proofs.lemmas.Bool.Decides.{nat_tests}
 use Rattle.std.proofs.lemmas.List.Elements.{Contains-append_cases}
 use Rattle.wire.specs.declared.actor.ActorId.{ActorId}
@@ -8,8 +8,11 @@ use Rattle.wire.specs.declared.actor.ActorId.TheVariants.{Map, Server}
 use Rattle.wire.specs.declared.actor.ReqNo.{ReqNo}
 use Rattle.wire.specs.declared.actor.ReqNo.TheVariants as requests
 use Rattle.wire.specs.declared.body.Body.{Body}
+use Rattle.wire.specs.declared.body.Body.TheVariants as bodies
+use Rattle.wire.specs.declared.body.StreamBody.TheVariants as streams
 use Rattle.wire.specs.declared.packet.Packet.{Packet}
 use Rattle.wire.specs.declared.note.Note.{Note}
+use Rattle.wire.specs.declared.streams.Modify.{Modify}
 use Rattle.wire.specs.declared.streams.StreamKind.{StreamKind}
 use Rattle.wire.specs.declared.streams.StreamKind.TheVariants as kinds
 use Rattle.wire.specs.declared.streams.StreamName.{StreamName}
@@ -20,10 +23,13 @@ use Rattle.model_streams.specs.Outcome.{packet}
 use Rattle.model_streams.specs.StreamSystem.{StreamSystem, Move}
 use Rattle.model_partition.specs.declared.server_context.ServerContext.{ServerContext}
 use Rattle.model_partition.specs.Cluster.{Cluster}
-use Rattle.model_partition.specs.Past.{Bytes, table_notes}
+use Rattle.model_partition.specs.Past.{Bytes}
+use Rattle.model_partition.specs.declared.split_job.SplitJob.{SplitJob}
+use Rattle.model_partition.specs.declared.table_note.TableNote.{TableNote}
+use Rattle.model_partition.specs.Splits.{SplitStep}
 use Rattle.model_partition.specs.Range.{RangeState, RangeOutcome}
 use Rattle.model_histories.specs.ServedTables.{AreSeenAs, StreamsInOrder}
-use Rattle.model_partition.specs.Server.{ServerState, range_of}
+use Rattle.model_partition.specs.Server.{ServerState, range_of, split_of}
 use Rattle.model_histories.specs.ServerRun.{ServerRun, after_actions, with_outcome, stream_named}
 use Rattle.model_partition.specs.Servers.{ServerCell, noted, with_told}
 use Rattle.model_histories.specs.ServerTurns.{after_all}
@@ -32,179 +38,85 @@ use Rattle.model_histories.specs.TableContents.{AllTellRightly}
 use Rattle.laws_loads.specs.RangeView.{RangeView, view_after_all}
 use Rattle.laws_loads.proofs.Entries.{entry_set, entry_other}
 use Rattle.laws_stream_machine.specs.Refinement.{Purpose, Sent, purpose_of, asked_number, IsAt, IsUnsealedAt}
-use Rattle.laws_stream_machine.proofs.ServerRequests.{Unused}
 use Rattle.laws_ranges.specs.Seen.{BeganAt, SeesStories}
-use Rattle.laws_ranges.specs.Serves.{Side, metadata_of, log_of, rows_of, AsksOfRows, IsForRows, Follows, FollowsIf, sent_with, Adds, AreUnused, IsSentBy, IsKnown, AskedOfBoth, RuleGoes}
-use Rattle.laws_ranges.proofs.MachineSteps.{newest}
+use Rattle.laws_ranges.specs.Serves.{Side, metadata_of, log_of, rows_of, AsksOfRows, IsForRows, IsAside, Adds, AreUnused, BothGo}
+use Rattle.laws_ranges.specs.SplitJobs.{waits_seal, waits_call, FollowsBoth, FollowsBothIf, IsForSplit, AskedOfSplit, silent}
+use Rattle.laws_ranges.proofs.SplitsKept.{both_row_data, seal_aside}
 use Rattle.laws_server_runs.specs.RunInvariant.{view_at}
 use Rattle.laws_server_runs.proofs.Actions.{same_test, other_test, actions_here, actions_apart, actions_bytes, actions_rest}
 use Rattle.laws_servers.specs.Sending.{MaySendAll}
-use Rattle.laws_server_runs.specs.Places.{AreAscending, TablesWithin, bytes_of}
-use Rattle.laws_clusters.proofs.Invariant.{SeesAll, IsOther, HeldAt, Machines, HasNumber, HasNone, AllRowsOut, AreDistinct, IsIdle, AreBeside, here, m_side, l_side, Holds, IsHeld, Runs, Standing}
-use Rattle.laws_clusters.proofs.ObservedBytes.{AreObserved, observed_on, observed_both, before_tells, tables_behind, seen_all}
-use Rattle.laws_clusters.proofs.OneRange.{is_range_change, IsWord}
-use Rattle.laws_clusters.proofs.Senders.{IsOfServer}
+use Rattle.laws_server_runs.specs.Places.{bytes_of}
+use Rattle.laws_clusters.proofs.Invariant.{SeesAll, IsOther, HeldAt, SplitAt, Waiter, OfRows, OfSeal, OfCall, Waits, IsOfExtents, AskedBy, IsSplitAsk, Machines, HasNumber, HasNone, AllOut, AreDistinct, IsIdle, IsBeside, AreBeside, here, m_side, l_side, Holds, IsHeld, Runs, Standing}
+use Rattle.laws_clusters.proofs.ObservedBytes.{AreObserved, observed_on, observed_both, before_tells, seen_all}
+use Rattle.laws_clusters.proofs.MapWords.{IsFounded, IsWord}
 use Rattle.laws_clusters.proofs.OtherRanges.{noted_keeps, onward_same, holds_on, held_on, own_if}
 use Rattle.laws_clusters.proofs.RangeActions.{actions_aside, actions_say}
 use Rattle.laws_clusters.proofs.Copies.{AllSay}
-use Rattle.laws_clusters.proofs.RowRules.{AsksIn, AllIn}
+use Rattle.laws_clusters.proofs.RangeStreams.{HasStreams, catalog_stays, streams_stay, IsOfSplit, AreOfSplits, split_stays, AsksOthers, absent_on}
+use Rattle.laws_clusters.proofs.RowRules.{AsksIn}
+use Rattle.laws_clusters.proofs.ClientJobs.{AsksBy}
 use Rattle.laws_clusters.proofs.RowPurposes.{rows_aside, own_asks, rows_request}
-use Rattle.laws_clusters.proofs.RowSteps.{WasOut, IsNew, StepOfRows, all_rows_out}
+pub use Rattle.laws_clusters.proofs.StepShapes.{IsNear, IsLaid, AreLaid, laid_behind, plain_laid}
+use Rattle.laws_clusters.proofs.StepShapes.{has_number, has_none, all_else, AreLeft, SplitsLeft, keep_asks, RowsWaited, SealWaited, CallWaited, StepWaits, below_next, other_range, other_server, with_one, one_here, one_other, whose}
+use Rattle.laws_clusters.proofs.RowSteps.{same_asks, IsNew, WaitedBefore, Steady, StepOfWaits, all_out}
+use Rattle.laws_clusters.proofs.SplitRequests.{SplitSends, IsRequestOf, sent_in, in_used, in_asks, sends_asks, sends_waits, one_answer, known_by, seal_waits, sends_rows, asks_rows, no_request}
+use Rattle.laws_clusters.proofs.ServerNotes.{server_notes}
+use Rattle.laws_clusters.proofs.ServerNumbers as numbers
 use Rattle.laws_clusters.proofs.StreamOrders.{in_order}
-use Rattle.laws_clusters.proofs.RangeRules.{Done}
+use Rattle.laws_clusters.proofs.RangeRules.{metadata_below, log_below, Acted}
 use Rattle.laws_clusters.proofs.RangeSteps.{m_after, l_after, machines_after, m_side_is, l_side_is, others_steady, goes_onward, goes_on}
-use Rattle.laws_clusters.proofs.StreamMachines.{Further, is_unused, all_told}
-use Rattle.laws_clusters.proofs.Elsewhere.{none_of, IsRowsElse, AreRowsElse, all_elsewhere}
+use Rattle.laws_clusters.proofs.StreamMachines.{Further, all_told}
+use Rattle.laws_clusters.proofs.Elsewhere.{RowsRequest, AllBuildAside, AreRowsElse, all_elsewhere, all_alone}
+use Rattle.laws_stream_machine.proofs.BuiltStreams.{IsAbsent}
 use Rattle.laws_stream_machine.proofs.LowerLayer.{below_alone}
-use Rattle.laws_clusters.proofs.RequestNumbers.{PastAt, IsPast, AreNumbersPast, AllPast, past_on, past_step, not_past, unused_of, new_past, all_past_adds, added_some, added_none}
-
--- this run, but for what a server has read of a range
-pub record IsNear (s range : ℕ) (y b : ServerRun) : Type 0 where
-  pub history : (t j : ℕ) → ((t == s) && (j == range)) ≡ false → b.history t j ≡ y.history t j
-  pub story : (name : StreamName) → b.story name ≡ y.story name
-  pub shown : (j : ℕ) → b.shown j ≡ y.shown j
-  pub answered : (j : ℕ) → b.answered j ≡ y.answered j
-  pub notes : b.notes ≡ y.notes
-
--- where the streams of a run are in order, the tables that its servers show lie within what was shown and answered
-abbrev pub IsLaid : ServerRun → Type 0
-IsLaid y = (texts : ℕ → Bytes) → ((range : ℕ) → StreamsInOrder texts range y) → TablesWithin texts (bytes_of y) y.notes
-
--- of a server's ranges one is left so, and all others are as before
-pub record AreLeft (before after : List (ℕ × RangeState)) (range : ℕ) (o : Option RangeState) : Type 0 where
-  pub ascending : AreAscending after
-  pub here : (r : RangeState) → range_of after range ≡ Some r → o ≡ Some r
-  pub others : (j : ℕ) → (j ≡ range → ⊥) → range_of after j ≡ range_of before j
-
--- the number of a request that has a purpose is below the next one
-below_next : (d : ServerContext) (count : ℕ) (sent more : List Sent) → AreUnused d count more → (a : Adds d sent more) → (p : Purpose) → a.purpose ≡ Some p → a.number < count
-below_next d count sent more unused a p some =
-    ⊎_elim {C = a.number < count} (λ less. less)
-    (λ le.
-    (let q : ReqNo = requests.Server d.server d.session a.number in
-    let none : purpose_of more q ≡ None = unused a.number le in
-    let there : purpose_of more q ≡ Some p = ap (λ z. purpose_of z q) (a.is ∙ ap (λ o. sent_with q o sent) some) ∙ newest q p sent in
-    absurd (let z : None ≡ Some p = sym none ∙ there in cc)))
-    (cases_lt a.number count)
-
--- ---- tests of a server and a range
-
-not_second : (a b : Bool) → b ≡ false → (a && b) ≡ false
-not_second true b e = e
-not_second false b e = refl
-
-other_range : (t s j range : ℕ) → (j ≡ range → ⊥) → ((t == s) && (j == range)) ≡ false
-other_range t s j range apart = not_second (t == s) (j == range) (other_test j range apart)
-
-other_server : (t s j range : ℕ) → (t ≡ s → ⊥) → ((t == s) && (j == range)) ≡ false
-other_server t s j range apart = ap (λ a. a && (j == range)) (other_test t s apart)
-
--- ---- incarnations of ranges at servers
-
-abbrev with_one : (ℕ → ℕ → Option ℕ) → ℕ → ℕ → ℕ → ℕ → ℕ → Option ℕ
-with_one o s range i t j = if (t == s) && (j == range) then Some i else o t j
-
-one_here : (o : ℕ → ℕ → Option ℕ) (s range i : ℕ) → with_one o s range i s range ≡ Some i
-one_here o s range i = ap (λ b. if b && (range == range) then Some i else o s range) (same_test s) ∙ ap (λ b. if b then Some i else o s range) (same_test range)
-
-one_other : (o : ℕ → ℕ → Option ℕ) (s range i t j : ℕ) → ((t == s) && (j == range)) ≡ false → with_one o s range i t j ≡ o t j
-one_other o s range i t j test = ap (λ b. if b then Some i else o t j) test
-
--- whose it is
-whose : (o : ℕ → ℕ → Option ℕ) (s range i t j k : ℕ) → with_one o s range i t j ≡ Some k → ((t ≡ s) × (j ≡ range) × (i ≡ k)) ⊎ (o t j ≡ Some k)
-whose o s range i t j k e = go (t == s) (j == range) refl refl e
-  where
-    go : (a b : Bool) → (t == s) ≡ a → (j == range) ≡ b → (if a && b then Some i else o t j) ≡ Some k → ((t ≡ s) × (j ≡ range) × (i ≡ k)) ⊎ (o t j ≡ Some k)
-    go true true one two z = inl (grind (arith, nat_tests), grind (arith, nat_tests), cc)
-    go true false one two z = inr z
-    go false b one two z = inr z
-
--- What a range that a step leaves waits for with its row data it waited for before, or under a number that was not used; and each
--- request about extents that is sent is that of a job.
-abbrev pub RowsAfter : ServerState → ℕ → RangeOutcome → List Packet → Type 0
-RowsAfter st range o ps =
-    (next : RangeState) → o.after ≡ Some next →
-    ((q : ReqNo) → awaits next.rows.job q ≡ true → ((r : RangeState) × (range_of st.ranges range ≡ Some r) × WasOut r.rows next.rows) ⊎ IsNew st.context o.count q) × AllIn next ps
-
-in_all : (r : RangeState) (ps : List Packet) → AllIn r ps → (p : Packet) → Contains ps p → AsksIn r p.body
-in_all r [] all p (at, less, is) = absurd (omega (arith, less))
-in_all r (x ∷ ps) all p (zero, less, is) = subst (λ (z : Packet). AsksIn r z.body) is all.0
-in_all r (x ∷ ps) all p (suc at, less, is) = in_all r ps all.1 p (at, omega (arith, less), is)
+use Rattle.laws_clusters.proofs.RequestNumbers.{PastAt, IsPast, used_number, asked_used, AreNumbersPast, AllPast, past_on, past_step, new_past, all_past_adds, added_some, added_none}
 
 module _ (generation : ℕ → ℕ) (nodes target : ℕ) where
-  -- a number of both lists, or of one
-  has_number : (z : Machines generation) (q : ReqNo) → (purpose_of z.m_sent q ≡ None → purpose_of z.l_sent q ≡ None → ⊥) → HasNumber generation z q
-  has_number z q known = go (purpose_of z.m_sent q) (purpose_of z.l_sent q) refl refl
-    where
-      go : (a b : Option Purpose) → purpose_of z.m_sent q ≡ a → purpose_of z.l_sent q ≡ b → HasNumber generation z q
-      go (Some p) b one two = (p, inl one)
-      go None (Some p) one two = (p, inr two)
-      go None None one two = absurd (known one two)
-
-  has_none : (z : Machines generation) (q : ReqNo) → (HasNumber generation z q → ⊥) → HasNone generation z q
-  has_none z q not = (none_of z.m_sent q (λ p e. not (p, inl e)), none_of z.l_sent q (λ p e. not (p, inr e)))
-
-  -- what is asked of both streams of a range is under a number of theirs
-  known_of : (range i : ℕ) (w : StreamSystem) (after : Option RangeState) (n k : Side) (ps : List Packet) → AskedOfBoth generation range w i after n k ps → (p : Packet) → Contains ps p → IsKnown generation range w i after n.sent k.sent p.body
-  known_of range i w after n k [] asked p (at, less, is) = absurd (omega (arith, less))
-  known_of range i w after n k (x ∷ ps) asked p (zero, less, is) = subst (λ (z : Packet). IsKnown generation range w i after n.sent k.sent z.body) is asked.0.2
-  known_of range i w after n k (x ∷ ps) asked p (suc at, less, is) = known_of range i w after n k ps asked.1 p (at, omega (arith, less), is)
-
-  -- what is so of each of some packets makes a list
-  all_else : (range i : ℕ) (w : StreamSystem) (n k : Side) (sent : List Sent) (ps : List Packet) → ((p : Packet) → Contains ps p → IsRowsElse generation range w i n k sent p.body) → AreRowsElse generation range w i n k sent ps
-  all_else range i w n k sent [] each = tt
-  all_else range i w n k sent (p ∷ ps) each = (each p (0, omega arith, refl), all_else range i w n k sent ps (λ q there. each q (suc there.0, (let less : there.0 < length ps = there.1 in omega arith), there.2)))
-
   module _ (c : Cluster) (y : ServerRun) (x : Standing generation nodes target c y) (s : ℕ) (cell : ServerCell) (st : ServerState) (at : entry_at c.servers s ≡ Some cell) (is : cell.state ≡ Some st) where
     abbrev w : StreamSystem
     w = here generation nodes target x.moves
 
-    pub run_of : Runs generation nodes target x.moves x.machines (y.history s) (x.incarnation s) s cell st
-    run_of = x.servers s cell st at is
+    run_of : Runs generation nodes target x.moves x.machines (y.history s) (x.incarnation s) s cell st
+    run_of = numbers.run_of generation nodes target c y x s cell st at is
 
-    pub not_used : (k : ℕ) → st.context.count ≤ k → IsPast c.servers (requests.Server st.context.server st.context.session k) → ⊥
-    not_used = not_past c.servers s cell st at is run_of.server run_of.session
+    not_used : (k : ℕ) → st.context.count ≤ k → IsPast c.servers (requests.Server st.context.server st.context.session k) → ⊥
+    not_used = numbers.not_used generation nodes target c y x s cell st at is
 
-    unused : (k : ℕ) → st.context.count ≤ k → Unused w (requests.Server st.context.server st.context.session k)
-    unused k from =
-        is_unused generation nodes target x.moves c.servers (requests.Server st.context.server st.context.session k) (subst (λ (z : StreamSystem). AreNumbersPast c.servers z.post) (sym x.leads) x.numbers) (not_used k from)
-
-    module _ (range : ℕ) where
-      m_past : AllPast c.servers (x.machines range).m_sent
-      m_past q p e = x.past range q (p, inl e)
-
-      l_past : AllPast c.servers (x.machines range).l_sent
-      l_past q p e = x.past range q (p, inr e)
-
-      pub sent_by : IsSentBy st.context st.context.count (x.machines range).m_sent (x.machines range).l_sent
-      sent_by = record {
-        apart = (x.beside range).apart;
-        metadata = unused_of c.servers s cell st at is run_of.server run_of.session (x.machines range).m_sent m_past;
-        log = unused_of c.servers s cell st at is run_of.server run_of.session (x.machines range).l_sent l_past;
-      }
-
-    module _ (range : ℕ) (counted : 1 ≤ range) (i : ℕ) (alone : (t j : ℕ) → x.incarnation t j ≡ Some i → (t ≡ s) × (j ≡ range)) (b : ServerRun) (near : IsNear s range y b)
+    module _ (range : ℕ) (founded : IsFounded c.stream_layer range) (i : ℕ) (alone : (t j : ℕ) → x.incarnation t j ≡ Some i → (t ≡ s) × (j ≡ range)) (b : ServerRun) (near : IsNear s range y b)
         (record_began : BeganAt ((b.history s range).append kinds.Metadata) ((after_all Group generation (x.machines range).m).phase i))
-        (began : BeganAt ((b.history s range).append kinds.Log) ((after_all Group generation (x.machines range).l).phase i)) (o : RangeOutcome) (actions : List StreamAction)
-        (k : Done generation nodes target c y x range counted i st.context (view_at range b s) o actions) (ps : List Packet) (may : MaySendAll ps)
-        (rows : RowsAfter st range o ps) (asked : AskedOfBoth generation range w i o.after (m_after generation nodes target x.moves range (x.machines range) i st.context o k.rule.goes) (l_after generation nodes target x.moves range (x.machines range) i st.context o k.rule.goes) ps)
-        (senders : (p : Packet) → Contains ps p → IsOfServer p)
-        (after : ServerState) (context_is : after.context ≡ record st.context { count = o.count }) (shape : AreLeft st.ranges after.ranges range o.after) where
+        (began : BeganAt ((b.history s range).append kinds.Log) ((after_all Group generation (x.machines range).l).phase i)) (t : SplitStep) (notes : List TableNote) (actions : List StreamAction)
+        (k : Acted generation nodes target c y x range founded i st.context (view_at range b s) t actions) (ps : List Packet) (may : MaySendAll ps)
+        (waits : StepWaits st range t ps)
+        (asked : AskedOfSplit generation range w i t.range t.job (m_after generation nodes target x.moves range (x.machines range) i st.context (silent t) (FollowsBothIf generation range w i t.job) k.rule.step.goes)
+        (l_after generation nodes target x.moves range (x.machines range) i st.context (silent t) (FollowsBothIf generation range w i t.job) k.rule.step.goes) ps)
+        -- where it is dropped, so is its split, and nothing is asked of the map and built
+        (ends : t.range ≡ None → t.job ≡ None) (gone : t.range ≡ None → (p : Packet) → Contains ps p → (q : ReqNo) → used_number p.body ≡ Some q → asked_number p.body ≡ Some q)
+        -- what is built leaves the streams of other ranges, and is of a split
+        (lists : (server : ℕ) (to : ActorId) (list : List Modify) (q : ReqNo) → Contains ps (packet (Server server) to (bodies.Stream (streams.MultiModify list q))) → (m : Modify) → Contains list m → IsOfSplit c.stream_layer list)
+        (builds : (j : ℕ) → (j ≡ range → ⊥) → AllBuildAside (metadata_of j) w ps × AllBuildAside (log_of j) w ps)
+        (senders : (p : Packet) → Contains ps p → p.from ≡ Map → ⊥)
+        (after : ServerState) (context_is : after.context ≡ record st.context { count = t.count }) (shape : AreLeft st.ranges after.ranges range t.range) (split_shape : SplitsLeft st.splits after.splits range t.job) where
       abbrev z : Machines generation
       z = x.machines range
 
-      abbrev goes : RuleGoes generation range w i (m_side generation z i) (l_side generation z i) st.context o
-      goes = k.rule.goes
+      abbrev o : RangeOutcome
+      o = silent t
+
+      abbrev Then : Option RangeState → Side → Side → Type 0
+      Then = FollowsBothIf generation range w i t.job
+
+      abbrev goes : BothGo generation range w i Then (m_side generation z i) (l_side generation z i) st.context o
+      goes = k.rule.step.goes
 
       -- the machines of the range after the rule, and where the incarnation stands then
       abbrev new : Machines generation
-      new = machines_after generation nodes target x.moves range z i st.context o goes
+      new = machines_after generation nodes target x.moves range z i st.context o Then goes
 
       abbrev m_then : Side
-      m_then = m_after generation nodes target x.moves range z i st.context o goes
+      m_then = m_after generation nodes target x.moves range z i st.context o Then goes
 
       abbrev l_then : Side
-      l_then = l_after generation nodes target x.moves range z i st.context o goes
+      l_then = l_after generation nodes target x.moves range z i st.context o Then goes
 
       -- what the range sees of its streams afterwards
       abbrev v : RangeView
@@ -217,16 +129,16 @@ module _ (generation : ℕ → ℕ) (nodes target : ℕ) where
       next_servers = slice_set c.servers (s - 1) next_cell
 
       abbrev pub next_cluster : Cluster
-      next_cluster = record c { stream_layer = with_told c.stream_layer ps o.notes; servers = next_servers }
+      next_cluster = record c { stream_layer = with_told c.stream_layer ps notes; servers = next_servers }
 
       abbrev done : ServerRun
       done = after_actions s range (generation i) b actions
 
       abbrev pub next_run : ServerRun
-      next_run = with_outcome done (record { servers = next_servers; packets = ps; notes = o.notes })
+      next_run = with_outcome done (record { servers = next_servers; packets = ps; notes = notes })
 
-      told : Further generation nodes target x.moves (with_told w ps o.notes) ps
-      told = all_told generation nodes target x.moves ps o.notes may
+      told : Further generation nodes target x.moves (with_told w ps notes) ps
+      told = all_told generation nodes target x.moves ps notes may
 
       abbrev later : List Move
       later = x.moves ++ told.after
@@ -235,7 +147,7 @@ module _ (generation : ℕ → ℕ) (nodes target : ℕ) where
       same_catalog = ap (λ (u : StreamSystem). u.catalog) told.leads
 
       all_notes : (note : Note) → Contains w.notes note → Contains (here generation nodes target later).notes note
-      all_notes note there = subst (λ (u : StreamSystem). Contains u.notes note) (sym told.leads) (noted_keeps w.notes o.notes note there)
+      all_notes note there = subst (λ (u : StreamSystem). Contains u.notes note) (sym told.leads) (noted_keeps w.notes notes note there)
 
       -- ---- the machines of all ranges
 
@@ -275,8 +187,8 @@ module _ (generation : ℕ → ℕ) (nodes target : ℕ) where
           (λ q p e. still_past q (past q p e)) (λ p e. new_number a.number (below_next st.context o.count sent more none a p e)))
 
       new_past_all : (q : ReqNo) → HasNumber generation new q → IsPast next_servers q
-      new_past_all q (p, inl e) = past_adds z.m_sent goes.metadata_sent (m_past range) goes.sent_by.metadata goes.metadata_adds q p e
-      new_past_all q (p, inr e) = past_adds z.l_sent goes.log_sent (l_past range) goes.sent_by.log goes.log_adds q p e
+      new_past_all q (p, inl e) = past_adds z.m_sent goes.metadata_sent (numbers.m_past generation nodes target c y x s cell st at is range) goes.sent_by.metadata goes.metadata_adds q p e
+      new_past_all q (p, inr e) = past_adds z.l_sent goes.log_sent (numbers.l_past generation nodes target c y x s cell st at is range) goes.sent_by.log goes.log_adds q p e
 
       -- a number of the range was one before, or was not used
       was_number : (q : ReqNo) → HasNumber generation new q → HasNumber generation z q ⊎ (IsPast c.servers q → ⊥)
@@ -287,7 +199,7 @@ module _ (generation : ℕ → ℕ) (nodes target : ℕ) where
       none_elsewhere : (j : ℕ) → (j ≡ range → ⊥) → (q : ReqNo) → HasNumber generation new q → HasNone generation (x.machines j) q
       none_elsewhere j apart q has = elim (was_number q has) [
         | inl old ↦ x.distinct range j (λ e. apart (sym e)) q old
-        | inr fresh ↦ has_none (x.machines j) q (λ other. fresh (x.past j q other))
+        | inr fresh ↦ has_none generation (x.machines j) q (λ other. fresh (x.past j q other))
       ]
 
       still_none : (q : ReqNo) → IsPast c.servers q → HasNone generation z q → HasNone generation new q
@@ -311,100 +223,299 @@ module _ (generation : ℕ → ℕ) (nodes target : ℕ) where
       new_here : next_machines range ≡ new
       new_here = ap (λ t. if t then new else x.machines range) (same_test range)
 
-      next_follows : (next : RangeState) → o.after ≡ Some next → Follows generation range w i m_then l_then next
-      next_follows next is = subst (λ a. FollowsIf generation range w i a m_then l_then) is goes.then
+      next_follows : (next : RangeState) → t.range ≡ Some next → FollowsBoth generation range w i t.job next m_then l_then
+      next_follows next is = subst (λ a. FollowsBothIf generation range w i t.job a m_then l_then) is goes.then
 
       held_here : (r : RangeState) → range_of st.ranges range ≡ Some r → HeldAt c.servers s range r
       held_here r found = record { cell = cell; state = st; there = at; up = is; found = found }
 
-      -- a request has a number of the range, or its row data waits for the answer
-      known_now : (p : Packet) → Contains ps p → (q : ReqNo) → asked_number p.body ≡ Some q → HasNumber generation new q ⊎ ((next : RangeState) × (o.after ≡ Some next) × (awaits next.rows.job q ≡ true) × AsksOfRows range next.rows p.body)
-      known_now p there q number = go (purpose_of new.m_sent q) (purpose_of new.l_sent q) refl refl
+      split_here : (job : SplitJob) → split_of st.splits range ≡ Some job → SplitAt c.servers s range job
+      split_here job found = record { cell = cell; state = st; there = at; up = is; found = found }
+
+      -- where there is a split, there is a range
+      still_there : (later : SplitJob) → t.job ≡ Some later → (next : RangeState) × (t.range ≡ Some next)
+      still_there later has = go t.range refl
         where
-          rows_now : (a : Option RangeState) → IsForRows range a q p.body → (next : RangeState) × (a ≡ Some next) × (awaits next.rows.job q ≡ true) × AsksOfRows range next.rows p.body
-          rows_now None never = absurd never
-          rows_now (Some next) for = (next, refl, for.0, for.1)
+          go : (a : Option RangeState) → t.range ≡ a → (next : RangeState) × (t.range ≡ Some next)
+          go (Some next) e = (next, e)
+          go None e = absurd (let z : None ≡ Some later = sym (ends e) ∙ has in cc)
 
-          go : (u v : Option Purpose) → purpose_of new.m_sent q ≡ u → purpose_of new.l_sent q ≡ v →
-              HasNumber generation new q ⊎ ((next : RangeState) × (o.after ≡ Some next) × (awaits next.rows.job q ≡ true) × AsksOfRows range next.rows p.body)
-          go (Some u) v one two = inl (u, inl one)
-          go None (Some v) one two = inl (v, inr two)
-          go None None one two = inr (rows_now o.after (known_of range i w o.after m_then l_then ps asked p there q number one two))
+      -- a number of a stream, or who waits for it: row data, the seal of row data for the split, or a call of the split
+      abbrev OfStreams : Packet → ReqNo → Type 0
+      OfStreams p q = HasNumber generation new q × (asked_number p.body ≡ Some q)
 
-      -- what row data waits for has no purpose in a range's streams, before the step and after it
-      none_before : (next : RangeState) → o.after ≡ Some next → (q : ReqNo) → awaits next.rows.job q ≡ true → (j : ℕ) → HasNone generation (x.machines j) q
-      none_before next is_next q waits j = elim ((rows next is_next).0 q waits) [
-        | inl old ↦ (x.rows s range old.0 (held_here old.0 old.1) q (ap (λ z. awaits z q) (sym old.2.job) ∙ waits)).none j
-        | inr fresh ↦ has_none (x.machines j) q (λ has. not_used fresh.0 fresh.1 (subst (λ v. IsPast c.servers v) fresh.3 (x.past j q has)))
-      ]
+      abbrev RowsCase : Packet → ReqNo → Type 0
+      RowsCase p q = (next : RangeState) × (t.range ≡ Some next) × (awaits next.rows.job q ≡ true) × AsksOfRows range next.rows p.body × AsksIn next p.body × IsAside new.m_sent new.l_sent q
 
-      past_after : (next : RangeState) → o.after ≡ Some next → (q : ReqNo) → awaits next.rows.job q ≡ true → IsPast next_servers q
-      past_after next is_next q waits = elim ((rows next is_next).0 q waits) [
-        | inl old ↦ still_past q (x.rows s range old.0 (held_here old.0 old.1) q (ap (λ z. awaits z q) (sym old.2.job) ∙ waits)).past
-        | inr fresh ↦ subst (λ v. IsPast next_servers v) (sym fresh.3) (new_number fresh.0 fresh.2)
-      ]
+      abbrev SealCase : Packet → ReqNo → Type 0
+      SealCase p q = (next : RangeState) × (later : SplitJob) × (t.range ≡ Some next) × (t.job ≡ Some later) × (waits_seal later.phase q ≡ true) × SplitSends next later p.body × IsAside new.m_sent new.l_sent q
 
-      held_after : (t k : ℕ) (r : RangeState) → HeldAt next_servers t k r → ((t ≡ s) × (k ≡ range) × (o.after ≡ Some r)) ⊎ (HeldAt c.servers t k r × ((t ≡ s) → (k ≡ range) → ⊥))
-      held_after t k r h = elim (cases_eq t s) [
+      abbrev CallCase : Packet → ReqNo → Type 0
+      CallCase p q = (next : RangeState) × (later : SplitJob) × (t.range ≡ Some next) × (t.job ≡ Some later) × (waits_call later.phase q ≡ true) × SplitSends next later p.body
+
+      abbrev Cases : Packet → ReqNo → Type 0
+      Cases p q = OfStreams p q ⊎ (RowsCase p q ⊎ (SealCase p q ⊎ CallCase p q))
+
+      known_now : (p : Packet) → Contains ps p → (q : ReqNo) → used_number p.body ≡ Some q → Cases p q
+      known_now p there q number = by_range t.range refl
+        where
+          -- what is asked of extents or lists
+          asked_case : asked_number p.body ≡ Some q → (IsAside new.m_sent new.l_sent q → Cases p q) → Cases p q
+          asked_case asks aside = go (purpose_of new.m_sent q) (purpose_of new.l_sent q) refl refl
+            where
+              go : (u v : Option Purpose) → purpose_of new.m_sent q ≡ u → purpose_of new.l_sent q ≡ v → Cases p q
+              go (Some u) v one two = inl ((u, inl one), asks)
+              go None (Some v) one two = inl ((v, inr two), asks)
+              go None None one two = aside (one, two)
+
+          known : asked_number p.body ≡ Some q → IsAside new.m_sent new.l_sent q → IsForRows range t.range q p.body ⊎ IsForSplit w range t.job q p.body
+          known asks aside = known_by generation range i w t.range t.job m_then l_then ps asked p there q asks aside.0 aside.1
+
+          by_rows : (next : RangeState) → t.range ≡ Some next → AsksIn next p.body → Cases p q
+          by_rows next has asks =
+              let number_so : asked_number p.body ≡ Some q = in_used next p.body q asks number in
+              asked_case number_so
+              (λ aside.
+              (let for = asks_rows generation range w i m_then l_then next t.job (next_follows next has) q aside p.body asks number_so (subst (λ a. IsForRows range a q p.body ⊎ IsForSplit w range t.job q p.body) has (known number_so aside)) in
+              inr (inl (next, has, for.0, for.1, asks, aside))))
+
+          by_split : (next : RangeState) → t.range ≡ Some next → (later : SplitJob) → t.job ≡ Some later → SplitSends next later p.body → (asked_number p.body ≡ Some q) ⊎ (waits_call later.phase q ≡ true) → Cases p q
+          by_split next has later is_later sends (inr call) = inr (inr (inr (next, later, has, is_later, call, sends)))
+          by_split next has later is_later sends (inl asks) =
+              asked_case asks
+              (λ aside.
+              (let follows = subst (λ j. FollowsBoth generation range w i j next m_then l_then) is_later (next_follows next has) in
+              inr (inr (inl (next, later, has, is_later, seal_waits generation range w i m_then l_then next later follows q aside p.body sends asks, sends, aside)))))
+
+          by_sent : (next : RangeState) → t.range ≡ Some next → (job : Option SplitJob) → t.job ≡ job → IsRequestOf next job p.body → Cases p q
+          by_sent next has None none asks = by_rows next has asks
+          by_sent next has (Some later) is_later (inl asks) = by_rows next has asks
+          by_sent next has (Some later) is_later (inr sends) = by_split next has later is_later sends (sends_waits next later q p.body sends number)
+
+          by_none : t.range ≡ None → IsForRows range t.range q p.body ⊎ IsForSplit w range t.job q p.body → Cases p q
+          by_none none (inl rows) = absurd (subst (λ a. IsForRows range a q p.body) none rows)
+          by_none none (inr split) = absurd (subst (λ a. IsForSplit w range a q p.body) (ends none) split)
+
+          by_range : (a : Option RangeState) → t.range ≡ a → Cases p q
+          by_range None none = let asks = gone none p there q number in asked_case asks (λ aside. by_none none (known asks aside))
+          by_range (Some next) has = by_sent next has t.job refl (sent_in next t.job ps (waits next has).sent p there)
+
+      -- ---- what is held afterwards
+
+      abbrev Away : ℕ → ℕ → Type 0
+      Away t k = (t ≡ s) → (k ≡ range) → ⊥
+
+      state_is : (u : ServerCell) (v : ServerState) → entry_at next_servers s ≡ Some u → u.state ≡ Some v → after ≡ v
+      state_is u v there up =
+          let found_cell : Some next_cell ≡ Some u = sym (entry_set c.servers s cell next_cell at) ∙ there in
+          let cell_is : next_cell ≡ u = cc in
+          let state : Some after ≡ Some v = ap (λ (z : ServerCell). z.state) cell_is ∙ up in
+          cc
+
+      own_range : (r : RangeState) → HeldAt next_servers s range r → t.range ≡ Some r
+      own_range r h = shape.here r (ap (λ (z : ServerState). range_of z.ranges range) (state_is h.cell h.state h.there h.up) ∙ h.found)
+
+      own_split : (job : SplitJob) → SplitAt next_servers s range job → t.job ≡ Some job
+      own_split job h = sym split_shape.here ∙ ap (λ (z : ServerState). split_of z.splits range) (state_is h.cell h.state h.there h.up) ∙ h.found
+
+      held_back : (u k : ℕ) (r : RangeState) → Away u k → HeldAt next_servers u k r → HeldAt c.servers u k r
+      held_back u k r away h = elim (cases_eq u s) [
         | inl same ↦
-            (let found_cell : Some next_cell ≡ Some h.cell = sym (entry_set c.servers s cell next_cell at) ∙ subst (λ n. entry_at next_servers n ≡ Some h.cell) same h.there in
-            let cell_is : next_cell ≡ h.cell = cc in
-            let state_is : Some after ≡ Some h.state = ap (λ (z : ServerCell). z.state) cell_is ∙ h.up in
-            let after_is : after ≡ h.state = cc in
-            let found : range_of after.ranges k ≡ Some r = ap (λ (z : ServerState). range_of z.ranges k) after_is ∙ h.found in
-            at_own same found (cases_eq k range))
-        | inr apart ↦ inr (record { cell = h.cell; state = h.state; there = sym (entry_other c.servers s cell next_cell at t apart) ∙ h.there; up = h.up; found = h.found }, λ same. absurd (apart same))
+            (let there : entry_at next_servers s ≡ Some h.cell = subst (λ n. entry_at next_servers n ≡ Some h.cell) same h.there in
+            let found : range_of after.ranges k ≡ Some r = ap (λ (z : ServerState). range_of z.ranges k) (state_is h.cell h.state there h.up) ∙ h.found in
+            subst (λ n. HeldAt c.servers n k r) (sym same) (record { cell = cell; state = st; there = at; up = is; found = sym (shape.others k (away same)) ∙ found }))
+        | inr apart ↦ record { cell = h.cell; state = h.state; there = sym (entry_other c.servers s cell next_cell at u apart) ∙ h.there; up = h.up; found = h.found }
       ]
-        where
-          at_own : t ≡ s → range_of after.ranges k ≡ Some r → ((k ≡ range) ⊎ (k ≡ range → ⊥)) → ((t ≡ s) × (k ≡ range) × (o.after ≡ Some r)) ⊎ (HeldAt c.servers t k r × ((t ≡ s) → (k ≡ range) → ⊥))
-          at_own same found (inl own) = inl (same, own, shape.here r (subst (λ n. range_of after.ranges n ≡ Some r) own found))
-          at_own same found (inr apart) =
-              inr (subst (λ n. HeldAt c.servers n k r) (sym same) (record { cell = cell; state = st; there = at; up = is; found = sym (shape.others k apart) ∙ found }), λ q own. absurd (apart own))
 
-      rows_step : StepOfRows generation c.servers next_servers x.machines next_machines c.stream_layer.post ps s range st.context o.count (range_of st.ranges range) o.after x.rows
-      rows_step = record {
+      split_back : (u k : ℕ) (job : SplitJob) → Away u k → SplitAt next_servers u k job → SplitAt c.servers u k job
+      split_back u k job away h = elim (cases_eq u s) [
+        | inl same ↦
+            (let there : entry_at next_servers s ≡ Some h.cell = subst (λ n. entry_at next_servers n ≡ Some h.cell) same h.there in
+            let found : split_of after.splits k ≡ Some job = ap (λ (z : ServerState). split_of z.splits k) (state_is h.cell h.state there h.up) ∙ h.found in
+            subst (λ n. SplitAt c.servers n k job) (sym same) (record { cell = cell; state = st; there = at; up = is; found = sym (split_shape.others k (away same)) ∙ found }))
+        | inr apart ↦ record { cell = h.cell; state = h.state; there = sym (entry_other c.servers s cell next_cell at u apart) ∙ h.there; up = h.up; found = h.found }
+      ]
+
+      others_wait : (u k : ℕ) (by : Waiter) (q : ReqNo) → Away u k → Waits next_servers u k by q → Waits c.servers u k by q
+      others_wait u k OfRows q away (r, h, waits_so) = (r, held_back u k r away h, waits_so)
+      others_wait u k OfSeal q away (job, h, waits_so) = (job, split_back u k job away h, waits_so)
+      others_wait u k OfCall q away (job, h, waits_so) = (job, split_back u k job away h, waits_so)
+
+      others_ask : (u k : ℕ) (by : Waiter) (body : Body) → Away u k → AskedBy c.servers u k by body → AskedBy next_servers u k by body
+      others_ask u k OfRows body away asks = λ r h. asks r (held_back u k r away h)
+      others_ask u k OfSeal body away asks = tt
+      others_ask u k OfCall body away asks = λ job h. asks job (split_back u k job away h)
+
+      -- ---- who waits
+
+      abbrev Before : Waiter → ReqNo → Type 0
+      Before by q = WaitedBefore generation c.servers next_servers x.machines next_machines c.stream_layer.post ps s range st.context t.count x.out by q
+
+      same_next : (r next : RangeState) → t.range ≡ Some r → t.range ≡ Some next → next ≡ r
+      same_next r next one two = let both : Some next ≡ Some r = sym two ∙ one in cc
+
+      same_later : (job later : SplitJob) → t.job ≡ Some job → t.job ≡ Some later → later ≡ job
+      same_later job later one two = let both : Some later ≡ Some job = sym two ∙ one in cc
+
+      rows_before : (next : RangeState) → t.range ≡ Some next → (q : ReqNo) → awaits next.rows.job q ≡ true → RowsWaited st range next q → Before OfRows q
+      rows_before next has q waits_so (r, found, was) = record {
+        waited = (r, held_here r found, ap (λ j. awaits j q) (sym was.job) ∙ waits_so);
+        asks = λ body asks k h.
+            (let same : next ≡ k = same_next k next (own_range k h) has in
+            subst (λ (u : RangeState). AsksBy u.rows body) same (same_asks r.rows next.rows was.job was.group was.stream body (asks r (held_here r found))));
+      }
+
+      seal_before : (q : ReqNo) → SealWaited st range q → Before OfSeal q
+      seal_before q (job, found, waits_so) = record { waited = (job, split_here job found, waits_so); asks = λ body asks. tt }
+
+      call_before : (later : SplitJob) → t.job ≡ Some later → (q : ReqNo) → CallWaited st range later q → Before OfCall q
+      call_before later has q (job, found, waits_so, keeps) = record {
+        waited = (job, split_here job found, waits_so);
+        asks = λ body asks k h.
+            (let same : later ≡ k = same_later k later (own_split k h) has in
+            subst (λ (u : SplitJob). IsSplitAsk u body) same (keep_asks job later keeps body (asks job (split_here job found))));
+      }
+
+      waited : (by : Waiter) (q : ReqNo) → Waits next_servers s range by q → Before by q ⊎ IsNew st.context t.count q
+      waited OfRows q (r, h, waits_so) = elim ((waits r (own_range r h)).rows q waits_so) [ inl old ↦ inl (rows_before r (own_range r h) q waits_so old) | inr fresh ↦ inr fresh ]
+      waited OfSeal q (job, h, waits_so) =
+          let there = still_there job (own_split job h) in
+          elim ((waits there.0 there.1).seal job (own_split job h) q waits_so) [ inl old ↦ inl (seal_before q old) | inr fresh ↦ inr fresh ]
+      waited OfCall q (job, h, waits_so) =
+          let there = still_there job (own_split job h) in
+          elim ((waits there.0 there.1).call job (own_split job h) q waits_so) [ inl old ↦ inl (call_before job (own_split job h) q old) | inr fresh ↦ inr fresh ]
+
+      abbrev Stays : Waiter → Type 0
+      Stays by = Steady generation c.servers next_servers x.machines next_machines c.stream_layer.post ps s range st.context t.count x.out by
+
+      one_steady : Stays OfRows ⊎ (Stays OfSeal × Stays OfCall)
+      one_steady = by_range t.range refl
+        where
+          by_range : (a : Option RangeState) → t.range ≡ a → Stays OfRows ⊎ (Stays OfSeal × Stays OfCall)
+          by_range None none = inl (λ q (r, h, waits_so). absurd (let z : None ≡ Some r = sym none ∙ own_range r h in cc))
+          by_range (Some next) has = elim (waits next has).steady [
+            | inl rows ↦ inl (λ q (r, h, waits_so).
+                (let same : next ≡ r = same_next r next (own_range r h) has in
+                let waits_next : awaits next.rows.job q ≡ true = subst (λ (u : RangeState). awaits u.rows.job q ≡ true) (sym same) waits_so in
+                (rows_before next has q waits_next (rows q waits_next)).waited))
+            | inr split ↦ inr (
+              λ q (job, h, waits_so). (seal_before q ((split job (own_split job h) q).0 waits_so)).waited,
+              λ q (job, h, waits_so). (call_before job (own_split job h) q ((split job (own_split job h) q).1 waits_so)).waited,
+            )
+          ]
+
+      one_waits : (q : ReqNo) → Waits next_servers s range OfSeal q → Waits next_servers s range OfCall q → ⊥
+      one_waits q (job, h, seal) (later, g, call) =
+          let same : later ≡ job = same_later job later (own_split job h) (own_split later g) in one_answer job.phase q seal (subst (λ (u : SplitJob). waits_call u.phase q ≡ true) same call)
+
+      -- what it waits for with row data has no purpose in the range's streams
+      waits_apart : (by : Waiter) → IsOfExtents by → (q : ReqNo) → Waits next_servers s range by q → HasNone generation new q
+      waits_apart OfRows extents q (r, h, waits_so) = rows_aside range w goes.metadata_sent goes.log_sent r.rows.job (both_row_data generation range w i m_then l_then r t.job (next_follows r (own_range r h))).job q waits_so
+      waits_apart OfSeal extents q (job, h, waits_so) =
+          let there = still_there job (own_split job h) in
+          seal_aside generation range w i m_then l_then there.0 job q waits_so (subst (λ j. FollowsBoth generation range w i j there.0 m_then l_then) (own_split job h) (next_follows there.0 there.1))
+      waits_apart OfCall extents q waits_so = absurd extents
+
+      has_not : (q : ReqNo) → HasNumber generation new q → HasNone generation new q → ⊥
+      has_not q (p, inl has) none = let z : None ≡ Some p = sym none.0 ∙ has in cc
+      has_not q (p, inr has) none = let z : None ≡ Some p = sym none.1 ∙ has in cc
+
+      own_state : (job : SplitJob) → t.job ≡ Some job → SplitAt next_servers s range job
+      own_state job has = record { cell = next_cell; state = after; there = entry_set c.servers s cell next_cell at; up = refl; found = split_shape.here ∙ has }
+
+      abbrev Asked : Waiter → Packet → ReqNo → Type 0
+      Asked by p q = AskedBy next_servers s range by p.body ⊎ ((other : Waiter) × (other ≡ by → ⊥) × Waits next_servers s range other q)
+
+      row_asked : (p : Packet) (q : ReqNo) → used_number p.body ≡ Some q → Waits next_servers s range OfRows q → Cases p q → Asked OfRows p q
+      row_asked p q number own (inl has) = absurd (has_not q has.0 (waits_apart OfRows tt q own))
+      row_asked p q number own (inr (inl (next, has, waits_so, for, asks, aside))) =
+          inl (λ r h.
+          (let same : next ≡ r = same_next r next (own_range r h) has in
+          own_asks generation range w i m_then l_then r t.job (next_follows r (own_range r h)) q aside p.body (subst (λ u. AsksIn u p.body) same asks) (in_used next p.body q asks number)))
+      row_asked p q number own (inr (inr (inl (next, later, has, is_later, waits_so, sends, aside)))) = inr (OfSeal, λ e. cc, (later, own_state later is_later, waits_so))
+      row_asked p q number own (inr (inr (inr (next, later, has, is_later, waits_so, sends)))) = inr (OfCall, λ e. cc, (later, own_state later is_later, waits_so))
+
+      call_asked : (p : Packet) → Contains ps p → (q : ReqNo) → used_number p.body ≡ Some q → Asked OfCall p q
+      call_asked p there q number = inl (λ job h. (let next = still_there job (own_split job h) in
+          by_sent next.0 t.job job (own_split job h) (sent_in next.0 t.job ps (waits next.0 next.1).sent p there)))
+        where
+          by_sent : (next : RangeState) (split : Option SplitJob) (job : SplitJob) → split ≡ Some job → IsRequestOf next split p.body → IsSplitAsk job p.body
+          by_sent next None job e asks = absurd cc
+          by_sent next (Some k) job e (inl asks) = in_asks next job p.body asks
+          by_sent next (Some k) job e (inr sends) = let same : k ≡ job = cc in subst (λ u. IsSplitAsk u p.body) same (sends_asks next k p.body sends)
+
+      now_asked : (by : Waiter) (q : ReqNo) → Waits next_servers s range by q → (p : Packet) → Contains ps p → used_number p.body ≡ Some q → Asked by p q
+      now_asked OfRows q own p there number = row_asked p q number own (known_now p there q number)
+      now_asked OfSeal q own p there number = inl tt
+      now_asked OfCall q own p there number = call_asked p there q number
+
+      waits_now : (p : Packet) (q : ReqNo) → Cases p q → OfStreams p q ⊎ ((by : Waiter) × Waits next_servers s range by q)
+      waits_now p q (inl has) = inl has
+      waits_now p q (inr (inl (next, has, waits_so, for, asks, aside))) = inr (OfRows, (next, record { cell = next_cell; state = after; there = entry_set c.servers s cell next_cell at; up = refl; found = shape.there next has }, waits_so))
+      waits_now p q (inr (inr (inl (next, later, has, is_later, waits_so, sends, aside)))) = inr (OfSeal, (later, own_state later is_later, waits_so))
+      waits_now p q (inr (inr (inr (next, later, has, is_later, waits_so, sends)))) = inr (OfCall, (later, own_state later is_later, waits_so))
+
+      waits_step : StepOfWaits generation c.servers next_servers x.machines next_machines c.stream_layer.post ps s range st.context t.count x.out
+      waits_step = record {
         still_past = still_past;
         not_used = not_used;
         new_number = new_number;
         numbers = x.numbers;
-        past = x.past;
         none = λ j q none past. by_range (λ n u. HasNone generation (x.machines n) q → HasNone generation u q) (still_none q past) (λ n apart old. old) j none;
-        unused = λ j q apart fresh. by_range (λ n u. (n ≡ range → ⊥) → HasNone generation u q) (λ other. absurd (other refl)) (λ n other more. has_none (x.machines n) q (λ has. fresh (x.past n q has))) j apart;
-        held_before = held_here;
-        held = held_after;
-        from = λ next is_next. (rows next is_next).0;
-        aside = λ next is_next q waits.
-            subst (λ u. HasNone generation u q) (sym new_here) (rows_aside range w goes.metadata_sent goes.log_sent next.rows.job (next_follows next is_next).rows.job q waits);
-        asked = λ next is_next q waits p there number. own_asks generation range w i m_then l_then next (next_follows next is_next) q waits p.body (in_all next ps (rows next is_next).1 p there) number;
-        known = λ p there q number. elim (known_now p there q number) [
-          | inl has ↦ inl (subst (λ u. HasNumber generation u q) (sym new_here) has)
-          | inr own ↦ inr (own.0, own.1, own.2)
+        unused = λ j q apart fresh. by_range (λ n u. (n ≡ range → ⊥) → HasNone generation u q) (λ other. absurd (other refl)) (λ n other more. has_none generation (x.machines n) q (λ has. fresh (x.past n q has))) j apart;
+        from = waited;
+        steady = one_steady;
+        exclusive = one_waits;
+        others = others_wait;
+        others_ask = λ u k by body away. others_ask u k by body away;
+        aside = λ by extents q own. subst (λ u. HasNone generation u q) (sym new_here) (waits_apart by extents q own);
+        asked = now_asked;
+        known = λ p there q number. elim (waits_now p q (known_now p there q number)) [
+          | inl has ↦ inl (subst (λ u. HasNumber generation u q) (sym new_here) has.0, has.1)
+          | inr own ↦ inr own
         ];
       }
 
-      all_rows : AllRowsOut generation next_servers next_machines (c.stream_layer.post ++ ps)
-      all_rows = all_rows_out generation c.servers next_servers x.machines next_machines c.stream_layer.post ps s range st.context o.count (range_of st.ranges range) o.after x.rows rows_step
+      all_out_after : AllOut generation next_servers next_machines (c.stream_layer.post ++ ps)
+      all_out_after = all_out generation c.servers next_servers x.machines next_machines c.stream_layer.post ps s range st.context t.count x.out waits_step
+
+      -- a number that is waited for with row data has no purpose in a stream of another range
+      none_before : (by : Waiter) → IsOfExtents by → (q : ReqNo) → Waits next_servers s range by q → (j : ℕ) → HasNone generation (x.machines j) q
+      none_before by extents q own j = elim (waited by q own) [
+        | inl old ↦ (x.out s range by q old.waited).none extents j
+        | inr fresh ↦ has_none generation (x.machines j) q (λ has. not_used fresh.0 fresh.1 (subst (λ v. IsPast c.servers v) fresh.3 (x.past j q has)))
+      ]
+
+      past_after : (by : Waiter) (q : ReqNo) → Waits next_servers s range by q → IsPast next_servers q
+      past_after by q own = elim (waited by q own) [
+        | inl old ↦ still_past q (x.out s range by q old.waited).past
+        | inr fresh ↦ subst (λ v. IsPast next_servers v) (sym fresh.3) (new_number fresh.0 fresh.2)
+      ]
 
       -- a request about row data, as a stream of another range sees it
       rows_else : (j : ℕ) (sent : List Sent) → ((q : ReqNo) → HasNone generation (x.machines j) q → purpose_of sent q ≡ None) → AreRowsElse generation range w i m_then l_then sent ps
-      rows_else j sent side = all_else range i w m_then l_then sent ps
-          (λ p there q number one two. elim (known_now p there q number) [
-            | inl has ↦ absurd (purposes q has one two)
-            | inr own ↦ (
-              rows_request range w m_then.sent l_then.sent own.0.rows (next_follows own.0 own.1).rows p.body own.3
-                  (own_asks generation range w i m_then l_then own.0 (next_follows own.0 own.1) q own.2 p.body (in_all own.0 ps (rows own.0 own.1).1 p there) number),
-              side q (none_before own.0 own.1 q own.2 j),
-            )
-          ])
+      rows_else j sent side = all_else generation range i w m_then l_then sent ps (λ p there q number one two. by_case p q number one two (known_now p there q (asked_used p.body q number)))
         where
           purposes : (q : ReqNo) → HasNumber generation new q → purpose_of m_then.sent q ≡ None → purpose_of l_then.sent q ≡ None → ⊥
           purposes q (p, inl has) one two = let z : None ≡ Some p = sym one ∙ has in cc
           purposes q (p, inr has) one two = let z : None ≡ Some p = sym two ∙ has in cc
 
+          by_case : (p : Packet) (q : ReqNo) → asked_number p.body ≡ Some q → purpose_of m_then.sent q ≡ None → purpose_of l_then.sent q ≡ None → Cases p q → RowsRequest w range p.body × (purpose_of sent q ≡ None)
+          by_case p q number one two (inl has) = absurd (purposes q has.0 one two)
+          by_case p q number one two (inr (inl (next, has, waits_so, for, asks, aside))) =
+              let follows = next_follows next has in (
+                rows_request range w m_then.sent l_then.sent next.rows (both_row_data generation range w i m_then l_then next t.job follows) p.body for (own_asks generation range w i m_then l_then next t.job follows q aside p.body asks number),
+                side q (none_before OfRows tt q (next, record { cell = next_cell; state = after; there = entry_set c.servers s cell next_cell at; up = refl; found = shape.there next has }, waits_so) j),
+              )
+          by_case p q number one two (inr (inr (inl (next, later, has, is_later, waits_so, sends, aside)))) =
+              let follows = subst (λ u. FollowsBoth generation range w i u next m_then l_then) is_later (next_follows next has) in
+              (sends_rows generation range w i m_then l_then next later follows q aside p.body sends number, side q (none_before OfSeal tt q (later, own_state later is_later, waits_so) j))
+          by_case p q number one two (inr (inr (inr (next, later, has, is_later, waits_so, sends)))) = absurd (no_request p.body q next later sends number waits_so)
+
       all_numbers : AreNumbersPast next_servers (c.stream_layer.post ++ ps)
       all_numbers server to body there q number = elim (Contains-append_cases c.stream_layer.post ps (packet (Server server) to body) there) [
         | inl old ↦ still_past q (x.numbers server to body old q number)
-        | inr now ↦ elim (known_now (packet (Server server) to body) now q number) [ inl has ↦ new_past_all q has | inr own ↦ past_after own.0 own.1 q own.2 ]
+        | inr now ↦ elim (waits_now (packet (Server server) to body) q (known_now (packet (Server server) to body) now q number)) [ inl has ↦ new_past_all q has.0 | inr own ↦ past_after own.0 q own.1 ]
       ]
 
       -- ---- the streams
@@ -415,18 +526,8 @@ module _ (generation : ℕ → ℕ) (nodes target : ℕ) where
         m_are = old.m_are;
         l_are = old.l_are;
         apart = old.apart;
-        metadata = λ some.
-            told.below (metadata_of j) (after_all Group generation (x.machines j).m) (x.machines j).m_sent
-            (all_elsewhere generation range w i m_then l_then (metadata_of j) apart (after_all Group generation (x.machines j).m) (x.machines j).m_sent
-            (metadata_alone (metadata_of range) (apart_name (metadata_of j) (metadata_of range) apart)) (metadata_alone (log_of range) (apart_name (metadata_of j) (log_of range) apart))
-            (metadata_alone (rows_of range) (apart_name (metadata_of j) (rows_of range) apart))
-            (λ q known. (none_elsewhere j apart q (has_number new q known)).0) nodes target o.after ps asked (rows_else j (x.machines j).m_sent (λ q none. none.0))) (old.metadata some);
-        log = λ some.
-            told.below (log_of j) (after_all Group generation (x.machines j).l) (x.machines j).l_sent
-            (all_elsewhere generation range w i m_then l_then (log_of j) apart (after_all Group generation (x.machines j).l) (x.machines j).l_sent
-            (log_alone (metadata_of range) (apart_name (log_of j) (metadata_of range) apart)) (log_alone (log_of range) (apart_name (log_of j) (log_of range) apart))
-            (log_alone (rows_of range) (apart_name (log_of j) (rows_of range) apart))
-            (λ q known. (none_elsewhere j apart q (has_number new q known)).1) nodes target o.after ps asked (rows_else j (x.machines j).l_sent (λ q none. none.1))) (old.log some);
+        metadata = λ some. aside_metadata (old.metadata some);
+        log = λ some. aside_log (old.log some);
       }
         where
           apart_name : (name other : StreamName) → (name.range ≡ other.range → ⊥) → other ≡ name → ⊥
@@ -438,20 +539,66 @@ module _ (generation : ℕ → ℕ) (nodes target : ℕ) where
           log_alone : (other : StreamName) → (other ≡ log_of j → ⊥) → (n m e : ℕ) → IsAt w other n e → IsUnsealedAt w (log_of j) m e → ⊥
           log_alone = below_alone generation (log_of j) nodes target (λ u. cc) x.moves
 
+          -- nobody asks for it, where it is absent
+          asks_others : (name : StreamName) → (name.range ≡ range → ⊥) → AsksOthers name w (here generation nodes target later)
+          asks_others name differ server to body there =
+              elim (Contains-append_cases w.post ps (packet (Server server) to body) (subst (λ (u : StreamSystem). Contains u.post (packet (Server server) to body)) told.leads there)) [
+                | inl before ↦ inl before
+                | inr now ↦ inr (all_alone generation range w i m_then l_then name differ t.range t.job ps asked (rows_else j [] (λ q none. refl)) (packet (Server server) to body) now)
+              ]
+
+          still_absent : (name : StreamName) → (name.range ≡ range → ⊥) → IsAbsent name w → IsAbsent name (here generation nodes target later)
+          still_absent name differ absent = absent_on name w (here generation nodes target later) same_catalog (asks_others name differ) absent
+
+          aside_metadata : IsBeside generation nodes target x.moves (metadata_of j) (x.machines j).m (x.machines j).m_sent → IsBeside generation nodes target later (metadata_of j) (x.machines j).m (x.machines j).m_sent
+          aside_metadata (inr to_be) = inr (record { absent = still_absent (metadata_of j) apart to_be.absent; none_done = to_be.none_done; none_sent = to_be.none_sent })
+          aside_metadata (inl stream) = inl (record {
+            there = catalog_stays w (here generation nodes target later) same_catalog (metadata_of j) stream.there;
+            below =
+                told.below (metadata_of j) (after_all Group generation (x.machines j).m) (x.machines j).m_sent
+                (all_elsewhere generation range w i m_then l_then (metadata_of j) apart (after_all Group generation (x.machines j).m) (x.machines j).m_sent
+                (metadata_alone (metadata_of range) (apart_name (metadata_of j) (metadata_of range) apart)) (metadata_alone (log_of range) (apart_name (metadata_of j) (log_of range) apart))
+                (metadata_alone (rows_of range) (apart_name (metadata_of j) (rows_of range) apart))
+                (λ q known. (none_elsewhere j apart q (has_number generation new q known)).0) nodes target t.range t.job ps asked (rows_else j (x.machines j).m_sent (λ q none. none.0)) (builds j apart).0) stream.below;
+          })
+
+          aside_log : IsBeside generation nodes target x.moves (log_of j) (x.machines j).l (x.machines j).l_sent → IsBeside generation nodes target later (log_of j) (x.machines j).l (x.machines j).l_sent
+          aside_log (inr to_be) = inr (record { absent = still_absent (log_of j) apart to_be.absent; none_done = to_be.none_done; none_sent = to_be.none_sent })
+          aside_log (inl stream) = inl (record {
+            there = catalog_stays w (here generation nodes target later) same_catalog (log_of j) stream.there;
+            below =
+                told.below (log_of j) (after_all Group generation (x.machines j).l) (x.machines j).l_sent
+                (all_elsewhere generation range w i m_then l_then (log_of j) apart (after_all Group generation (x.machines j).l) (x.machines j).l_sent
+                (log_alone (metadata_of range) (apart_name (log_of j) (metadata_of range) apart)) (log_alone (log_of range) (apart_name (log_of j) (log_of range) apart))
+                (log_alone (rows_of range) (apart_name (log_of j) (rows_of range) apart))
+                (λ q known. (none_elsewhere j apart q (has_number generation new q known)).1) nodes target t.range t.job ps asked (rows_else j (x.machines j).l_sent (λ q none. none.1)) (builds j apart).1) stream.below;
+          })
+
+      has_later : HasStreams (here generation nodes target later) range
+      has_later =
+          streams_stay w (here generation nodes target later) (catalog_stays w (here generation nodes target later) same_catalog) range (subst (λ (u : StreamSystem). HasStreams u range) (sym x.leads) founded.1)
+
       all_beside : (j : ℕ) → AreBeside generation nodes target later j (next_machines j)
       all_beside =
           by_range (λ j u. AreBeside generation nodes target later j u)
-          (goes_on generation nodes target x.moves range z i st.context o goes (x.beside range) unused ps (with_told w ps o.notes) asked told) (λ j apart. aside_below j apart (x.beside j))
+          (goes_on generation nodes target x.moves range z i st.context o Then goes (x.beside range) (metadata_below generation nodes target c y x range founded) (log_below generation nodes target c y x range founded) (numbers.unused generation nodes target c y x s cell st at is) t.range t.job ps (with_told w ps notes) asked told has_later) (λ j apart. aside_below j apart (x.beside j))
 
       -- ---- packets of the map
 
-      map_tells : (to : ActorId) (body : Body) → Contains (c.stream_layer.post ++ ps) (packet Map to body) → IsWord body
+      map_tells : (to : ActorId) (body : Body) → Contains (c.stream_layer.post ++ ps) (packet Map to body) → IsWord c.stream_layer body
       map_tells to body there =
-          ⊎_elim {C = IsWord body} (λ old. x.from_map to body old) (λ new. absurd ((senders (packet Map to body) new).0 refl)) (Contains-append_cases c.stream_layer.post ps (packet Map to body) there)
+          ⊎_elim {C = IsWord c.stream_layer body} (λ old. x.from_map to body old) (λ new. absurd (senders (packet Map to body) new refl)) (Contains-append_cases c.stream_layer.post ps (packet Map to body) there)
 
-      nobody_changes : (p : Packet) → Contains (c.stream_layer.post ++ ps) p → is_range_change p.body ≡ false
-      nobody_changes p there =
-          ⊎_elim {C = is_range_change p.body ≡ false} (λ old. x.no_change p old) (λ new. (senders p new).1) (Contains-append_cases c.stream_layer.post ps p there)
+      -- ---- streams that are there
+
+      all_there : (u j : ℕ) (r : RangeState) → HeldAt next_servers u j r → HasStreams c.stream_layer j
+      all_there u j r held = elim (cases_eq j range) [ inl same ↦ subst (HasStreams c.stream_layer) (sym same) founded.1 | inr apart ↦ x.there u j r (held_back u j r (λ own named. apart named) held) ]
+
+      all_lists : AreOfSplits (with_told c.stream_layer ps notes)
+      all_lists server to list q there m among = elim (Contains-append_cases c.stream_layer.post ps (packet (Server server) to (bodies.Stream (streams.MultiModify list q))) there) [
+        | inl old ↦ split_stays c.stream_layer (with_told c.stream_layer ps notes) (λ n stands. stands) list (x.lists server to list q old m among)
+        | inr now ↦ split_stays c.stream_layer (with_told c.stream_layer ps notes) (λ n stands. stands) list (lists server to list q now m among)
+      ]
 
       -- ---- incarnations
 
@@ -480,7 +627,7 @@ module _ (generation : ℕ → ℕ) (nodes target : ℕ) where
       idle_one n le =
           let other : n ≡ i → ⊥ = (λ e. omega (arith, le, e)) in
           let old = x.idle n (omega (arith, le)) in
-          let steady = others_steady generation nodes target x.moves range z i st.context o goes n other in
+          let steady = others_steady generation nodes target x.moves range z i st.context o Then goes n other in
           by_range (λ j u. IsIdle generation u n) (steady.0 ∙ (old range).0, steady.1 ∙ (old range).1) (λ j apart. old j)
 
       -- ---- servers
@@ -505,34 +652,57 @@ module _ (generation : ℕ → ℕ) (nodes target : ℕ) where
       other_here : (j : ℕ) → (j ≡ range → ⊥) → next_machines j ≡ x.machines j
       other_here j apart = ap (λ t. if t then new else x.machines j) (other_test j range apart)
 
+      -- a number of another's row data, or of a seal for its split
+      abbrev RowsNone : ℕ → ℕ → RangeState → Option SplitJob → Type 0
+      RowsNone u j r job =
+          ((q : ReqNo) → awaits r.rows.job q ≡ true → HasNone generation (next_machines j) q) × ((k : SplitJob) → job ≡ Some k → (q : ReqNo) → waits_seal k.phase q ≡ true → HasNone generation (next_machines j) q)
+
+      rows_none : (u j : ℕ) (other_cell : ServerCell) (v : ServerState) → entry_at next_servers u ≡ Some other_cell → other_cell.state ≡ Some v → (r : RangeState) → range_of v.ranges j ≡ Some r → RowsNone u j r (split_of v.splits j)
+      rows_none u j other_cell v there up r found = (
+        λ q own. (all_out_after u j OfRows q (r, record { cell = other_cell; state = v; there = there; up = up; found = found }, own)).none tt j,
+        λ job is_job q own. (all_out_after u j OfSeal q (job, record { cell = other_cell; state = v; there = there; up = up; found = is_job }, own)).none tt j,
+      )
+
       -- a range of another number is held as it was
-      aside_held : (t j : ℕ) (r : RangeState) → (j ≡ range → ⊥) → ((q : ReqNo) → awaits r.rows.job q ≡ true → HasNone generation (next_machines j) q) → IsHeld generation nodes target x.moves j (x.machines j) (y.history t j) (x.incarnation t j) r →
-          IsHeld generation nodes target later j (x.machines j) (next_run.history t j) (inc t j) r
-      aside_held t j r apart none =
-          let test : ((t == s) && (j == range)) ≡ false = other_range t s j range apart in
-          held_on generation nodes target j x.moves later (x.machines j) (x.machines j) (y.history t j) (next_run.history t j) (apart_is t j test) (x.incarnation t j) (inc t j) (one_other x.incarnation s range i t j test) r
-          (λ n mine h. holds_on generation nodes target j x.moves later (x.machines j) (x.machines j) (onward_same generation nodes target j x.moves later (x.machines j) same_catalog all_notes) n (refl, refl) (y.history t j) r
-          (λ q waits. subst (λ u. HasNone generation u q) (other_here j apart) (none q waits)) h)
+      aside_held : (u j : ℕ) (job : Option SplitJob) (r : RangeState) → (j ≡ range → ⊥) → RowsNone u j r job → IsHeld generation nodes target x.moves j (x.machines j) (y.history u j) (x.incarnation u j) job r →
+          IsHeld generation nodes target later j (x.machines j) (next_run.history u j) (inc u j) job r
+      aside_held u j job r apart none =
+          let test : ((u == s) && (j == range)) ≡ false = other_range u s j range apart in
+          held_on generation nodes target j x.moves later (x.machines j) (x.machines j) (y.history u j) (next_run.history u j) (apart_is u j test) (x.incarnation u j) (inc u j) (one_other x.incarnation s range i u j test) job r
+          (λ n mine h. holds_on generation nodes target j x.moves later (x.machines j) (x.machines j) (onward_same generation nodes target j x.moves later (x.machines j) same_catalog all_notes) n (refl, refl) (y.history u j) job r
+          (λ q own. subst (λ v. HasNone generation v q) (other_here j apart) (none.0 q own)) (λ k is_job q own. subst (λ v. HasNone generation v q) (other_here j apart) (none.1 k is_job q own)) h)
 
       -- and so is the range at another server
-      other_held : (t : ℕ) (r : RangeState) → (t ≡ s → ⊥) → ((q : ReqNo) → awaits r.rows.job q ≡ true → HasNone generation (next_machines range) q) → IsHeld generation nodes target x.moves range z (y.history t range) (x.incarnation t range) r →
-          IsHeld generation nodes target later range new (next_run.history t range) (inc t range) r
-      other_held t r apart none =
-          let test : ((t == s) && (range == range)) ≡ false = other_server t s range range apart in
-          held_on generation nodes target range x.moves later z new (y.history t range) (next_run.history t range) (apart_is t range test) (x.incarnation t range) (inc t range) (one_other x.incarnation s range i t range test) r
+      other_held : (u : ℕ) (job : Option SplitJob) (r : RangeState) → (u ≡ s → ⊥) → RowsNone u range r job → IsHeld generation nodes target x.moves range z (y.history u range) (x.incarnation u range) job r →
+          IsHeld generation nodes target later range new (next_run.history u range) (inc u range) job r
+      other_held u job r apart none =
+          let test : ((u == s) && (range == range)) ≡ false = other_server u s range range apart in
+          held_on generation nodes target range x.moves later z new (y.history u range) (next_run.history u range) (apart_is u range test) (x.incarnation u range) (inc u range) (one_other x.incarnation s range i u range test) job r
           (λ n mine h.
-          holds_on generation nodes target range x.moves later z new (goes_onward generation nodes target x.moves range z i st.context o goes later same_catalog all_notes) n
-          (others_steady generation nodes target x.moves range z i st.context o goes n (λ same. apart (alone t range (mine ∙ ap Some same)).0)) (y.history t range) r
-          (λ q waits. subst (λ u. HasNone generation u q) new_here (none q waits)) h)
+          holds_on generation nodes target range x.moves later z new (goes_onward generation nodes target x.moves range z i st.context o Then goes later same_catalog all_notes) n
+          (others_steady generation nodes target x.moves range z i st.context o Then goes n (λ same. apart (alone u range (mine ∙ ap Some same)).0)) (y.history u range) job r
+          (λ q own. subst (λ v. HasNone generation v q) new_here (none.0 q own)) (λ k is_job q own. subst (λ v. HasNone generation v q) new_here (none.1 k is_job q own)) h)
 
-      own_held : (r : RangeState) → range_of after.ranges range ≡ Some r → IsHeld generation nodes target later range new (next_run.history s range) (inc s range) r
+      own_held : (r : RangeState) → range_of after.ranges range ≡ Some r → IsHeld generation nodes target later range new (next_run.history s range) (inc s range) (split_of after.splits range) r
       own_held r found = record {
-        counted = counted;
+        counted = founded.0;
         incarnation = i;
         is = one_here x.incarnation s range i;
-        holds = subst (λ (u : RangeView). Holds generation nodes target later range new u.history i r) (sym here_is)
-            (own_if generation nodes target x.moves range z i st.context o goes later same_catalog all_notes v.history sees.record_append sees.append k.read r (shape.here r found));
+        holds = subst (λ (u : RangeView). Holds generation nodes target later range new u.history i (split_of after.splits range) r) (sym here_is)
+            (subst (λ job. Holds generation nodes target later range new v.history i job r) (sym split_shape.here)
+            (own_if generation nodes target x.moves range z i st.context o t.job goes later same_catalog all_notes v.history sees.record_append sees.append k.read r (shape.here r found)));
       }
+
+      after_there : entry_at next_servers s ≡ Some next_cell
+      after_there = entry_set c.servers s cell next_cell at
+
+      split_held_after : (j : ℕ) (job : SplitJob) → split_of after.splits j ≡ Some job → (r : RangeState) × (range_of after.ranges j ≡ Some r)
+      split_held_after j job found = elim (cases_eq j range) [
+        | inl same ↦
+            (let next = still_there job (sym split_shape.here ∙ subst (λ n. split_of after.splits n ≡ Some job) same found) in
+            (next.0, subst (λ n. range_of after.ranges n ≡ Some next.0) (sym same) (shape.there next.0 next.1)))
+        | inr apart ↦ (let held = run_of.split_held j job (sym (split_shape.others j apart) ∙ found) in (held.0, shape.others j apart ∙ held.1))
+      ]
 
       own_runs : Runs generation nodes target later next_machines (next_run.history s) (inc s) s next_cell after
       own_runs = record {
@@ -540,27 +710,29 @@ module _ (generation : ℕ → ℕ) (nodes target : ℕ) where
         session = ap (λ (d : ServerContext). d.session) context_is ∙ run_of.session;
         ascending = shape.ascending;
         held = λ j r.
-            by_range (λ n u. range_of after.ranges n ≡ Some r → IsHeld generation nodes target later n u (next_run.history s n) (inc s n) r) (own_held r)
+            by_range (λ n u. range_of after.ranges n ≡ Some r → IsHeld generation nodes target later n u (next_run.history s n) (inc s n) (split_of after.splits n) r) (own_held r)
             (λ n apart found.
-            aside_held s n r apart (λ q waits. (all_rows s n r (record { cell = next_cell; state = after; there = entry_set c.servers s cell next_cell at; up = refl; found = found }) q waits).none n)
-            (run_of.held n r (sym (shape.others n apart) ∙ found))) j;
+            aside_held s n (split_of after.splits n) r apart (rows_none s n next_cell after after_there refl r found)
+            (subst (λ job. IsHeld generation nodes target x.moves n (x.machines n) (y.history s n) (x.incarnation s n) job r) (sym (split_shape.others n apart)) (run_of.held n r (sym (shape.others n apart) ∙ found)))) j;
+        splits_ascending = split_shape.ascending;
+        split_held = split_held_after;
       }
 
-      others_run : (t : ℕ) (other_cell : ServerCell) (u : ServerState) → (t ≡ s → ⊥) → entry_at next_servers t ≡ Some other_cell → other_cell.state ≡ Some u →
-          Runs generation nodes target later next_machines (next_run.history t) (inc t) t other_cell u
-      others_run t other_cell u other there up =
-          let old = x.servers t other_cell u (sym (entry_other c.servers s cell next_cell at t other) ∙ there) up in
+      others_run : (u : ℕ) (other_cell : ServerCell) (v : ServerState) → (u ≡ s → ⊥) → entry_at next_servers u ≡ Some other_cell → other_cell.state ≡ Some v →
+          Runs generation nodes target later next_machines (next_run.history u) (inc u) u other_cell v
+      others_run u other_cell v other there up =
+          let old = x.servers u other_cell v (sym (entry_other c.servers s cell next_cell at u other) ∙ there) up in
           record {
             server = old.server;
             session = old.session;
             ascending = old.ascending;
             held = λ j r.
-                by_range (λ n m. range_of u.ranges n ≡ Some r → IsHeld generation nodes target later n m (next_run.history t n) (inc t n) r) (λ found. other_held t r other (none_at range r found) (old.held range r found))
-                (λ n apart found. aside_held t n r apart (none_at n r found) (old.held n r found)) j;
+                by_range (λ n m. range_of v.ranges n ≡ Some r → IsHeld generation nodes target later n m (next_run.history u n) (inc u n) (split_of v.splits n) r)
+                (λ found. other_held u (split_of v.splits range) r other (rows_none u range other_cell v there up r found) (old.held range r found))
+                (λ n apart found. aside_held u n (split_of v.splits n) r apart (rows_none u n other_cell v there up r found) (old.held n r found)) j;
+            splits_ascending = old.splits_ascending;
+            split_held = old.split_held;
           }
-        where
-          none_at : (j : ℕ) (r : RangeState) → range_of u.ranges j ≡ Some r → (q : ReqNo) → awaits r.rows.job q ≡ true → HasNone generation (next_machines j) q
-          none_at j r found q waits = (all_rows t j r (record { cell = other_cell; state = u; there = there; up = up; found = found }) q waits).none j
 
       all_run : (t : ℕ) (other_cell : ServerCell) (u : ServerState) → entry_at next_servers t ≡ Some other_cell → other_cell.state ≡ Some u →
           Runs generation nodes target later next_machines (next_run.history t) (inc t) t other_cell u
@@ -589,10 +761,10 @@ module _ (generation : ℕ → ℕ) (nodes target : ℕ) where
       all_seen : SeesAll next_run (λ j. (after_all Group generation (next_machines j).m).state.story) (λ j. (after_all Group generation (next_machines j).l).state.story)
       all_seen = record {
         metadata_is = by_range (λ j u. next_run.story (stream_named j kinds.Metadata) ≡ (after_all Group generation u.m).state.story)
-            (ap (λ (u : RangeView). u.story kinds.Metadata) here_is ∙ sees.metadata ∙ sym (ap (λ (u : Side). u.stand.state.story) (m_side_is generation nodes target x.moves range z i st.context o goes)))
+            (ap (λ (u : RangeView). u.story kinds.Metadata) here_is ∙ sees.metadata ∙ sym (ap (λ (u : Side). u.stand.state.story) (m_side_is generation nodes target x.moves range z i st.context o Then goes)))
             (λ j apart. story_aside (stream_named j kinds.Metadata) (of_other j kinds.Metadata apart) ∙ x.stories.metadata_is j);
         log_is = by_range (λ j u. next_run.story (stream_named j kinds.Log) ≡ (after_all Group generation u.l).state.story)
-            (ap (λ (u : RangeView). u.story kinds.Log) here_is ∙ sees.log ∙ sym (ap (λ (u : Side). u.stand.state.story) (l_side_is generation nodes target x.moves range z i st.context o goes)))
+            (ap (λ (u : RangeView). u.story kinds.Log) here_is ∙ sees.log ∙ sym (ap (λ (u : Side). u.stand.state.story) (l_side_is generation nodes target x.moves range z i st.context o Then goes)))
             (λ j apart. story_aside (stream_named j kinds.Log) (of_other j kinds.Log apart) ∙ x.stories.log_is j);
         others = λ name other. story_aside name (other range) ∙ x.stories.others name other;
       }
@@ -624,36 +796,39 @@ module _ (generation : ℕ → ℕ) (nodes target : ℕ) where
         | inr other ↦ subst (λ ps. AreObserved c.stream_layer.notes ps) (sym ((actions_bytes s range (generation i) j other b actions).1 ∙ near.answered j)) (x.acked j)
       ]
 
-      notes_are : next_run.notes ≡ y.notes ++ o.notes
-      notes_are = ap (λ ns. ns ++ o.notes) ((actions_rest s range (generation i) b actions).1 ∙ near.notes)
+      notes_are : next_run.notes ≡ y.notes ++ notes
+      notes_are = ap (λ ns. ns ++ notes) ((actions_rest s range (generation i) b actions).1 ∙ near.notes)
 
       -- over any texts that have what was observed before the rule
       ordered : (texts : ℕ → Bytes) → AllTellRightly texts c.stream_layer.notes → (j : ℕ) → StreamsInOrder texts j next_run
       ordered texts all j = in_order generation next_run next_machines (λ n. (all_beside n).m_are) (λ n. (all_beside n).l_are) all_seen texts c.stream_layer.notes all j (observed_before j) (acked_before j)
 
-      tables_told : IsLaid next_run → (texts : ℕ → Bytes) → AllTellRightly texts (noted c.stream_layer.notes o.notes) →
-          AreSeenAs texts next_run.notes (table_notes (noted c.stream_layer.notes o.notes))
+      tables_told : AreLaid next_run notes → (texts : ℕ → Bytes) → AllTellRightly texts (noted c.stream_layer.notes notes) →
+          AreSeenAs texts next_run.notes (server_notes (noted c.stream_layer.notes notes))
       tables_told laid texts all =
-          let before : AllTellRightly texts c.stream_layer.notes = before_tells texts c.stream_layer.notes o.notes all in
-          subst (λ ns. AreSeenAs texts ns (table_notes (noted c.stream_layer.notes o.notes))) (sym notes_are)
-          (seen_all texts y.notes o.notes c.stream_layer.notes (bytes_of next_run) all
+          let before : AllTellRightly texts c.stream_layer.notes = before_tells texts c.stream_layer.notes notes all in
+          subst (λ ns. AreSeenAs texts ns (server_notes (noted c.stream_layer.notes notes))) (sym notes_are)
+          (seen_all texts y.notes notes c.stream_layer.notes (bytes_of next_run) all
           (λ j. observed_both c.stream_layer.notes (next_run.shown j) (next_run.answered j) (observed_before j) (acked_before j))
-          (tables_behind texts (bytes_of next_run) y.notes o.notes (subst (λ ns. TablesWithin texts (bytes_of next_run) ns) notes_are (laid texts (ordered texts before)))) (x.told texts before))
+          (laid texts (ordered texts before)) (x.told texts before))
 
-      -- the cluster after the rule
-      pub stepped : IsLaid next_run → Standing generation nodes target next_cluster next_run
+      -- the cluster after the step
+      pub stepped : AreLaid next_run notes → Standing generation nodes target next_cluster next_run
       stepped laid = record {
         moves = later;
-        leads = told.leads ∙ ap (λ u. with_told u ps o.notes) x.leads;
+        leads = told.leads ∙ ap (λ u. with_told u ps notes) x.leads;
         machines = next_machines;
         beside = all_beside;
         distinct = all_distinct;
         past = all_past;
         numbers = all_numbers;
-        rows = all_rows;
+        out = all_out_after;
         from_map = map_tells;
-        no_change = nobody_changes;
-        first_range = x.first_range;
+        counted = x.counted;
+        have = x.have;
+        first = x.first;
+        there = all_there;
+        lists = all_lists;
         incarnation = inc;
         bound = x.bound + suc i;
         own = own_one;
@@ -663,7 +838,7 @@ module _ (generation : ℕ → ℕ) (nodes target : ℕ) where
         servers = all_run;
         stories = all_seen;
         says = all_says;
-        observed = λ j. observed_on c.stream_layer.notes (noted c.stream_layer.notes o.notes) (noted_keeps c.stream_layer.notes o.notes) (next_run.shown j) (observed_before j);
-        acked = λ j. observed_on c.stream_layer.notes (noted c.stream_layer.notes o.notes) (noted_keeps c.stream_layer.notes o.notes) (next_run.answered j) (acked_before j);
+        observed = λ j. observed_on c.stream_layer.notes (noted c.stream_layer.notes notes) (noted_keeps c.stream_layer.notes notes) (next_run.shown j) (observed_before j);
+        acked = λ j. observed_on c.stream_layer.notes (noted c.stream_layer.notes notes) (noted_keeps c.stream_layer.notes notes) (next_run.answered j) (acked_before j);
         told = tables_told laid;
       }

@@ -17,6 +17,7 @@ use Rattle.wire.specs.declared.body.ReadBody.{ReadBody}
 use Rattle.wire.specs.declared.body.ReadBody.TheVariants as reads
 use Rattle.wire.specs.declared.body.StreamBody.{StreamBody}
 use Rattle.wire.specs.declared.body.StreamBody.TheVariants.{CreateStream, OpenStreams, Confirm, Confirmed, Extend, Trim, MultiModify}
+use Rattle.wire.specs.declared.body.MapBody.{MapBody}
 use Rattle.wire.specs.declared.body.MapBody.TheVariants as maps
 use Rattle.wire.specs.declared.body.Body.{Body}
 use Rattle.wire.specs.declared.body.Body.TheVariants as bodies
@@ -51,7 +52,19 @@ use Rattle.laws_streams.proofs.ManagerAnswers as manager
 use Rattle.laws_streams.proofs.NodeAnswers as node
 use Rattle.laws_streams.proofs.DecisionAnswers as decision
 use Rattle.laws_clusters.specs.Senders.{IsOfLayer}
-use Rattle.laws_clusters.proofs.OneRange.{is_range_change}
+
+-- a split or a merge is begun or completed
+abbrev pub is_change : MapBody → Bool
+is_change (maps.BeginSplit range generation key q) = true
+is_change (maps.CompleteSplit range generation q) = true
+is_change (maps.BeginMerge left left_generation right right_generation q) = true
+is_change (maps.CompleteMerge left left_generation right right_generation q) = true
+is_change body = false
+
+-- the map is asked for other ranges
+abbrev pub is_range_change : Body → Bool
+is_range_change (bodies.Map body) = is_change body
+is_range_change body = false
 
 -- it shows nothing of tables
 abbrev IsBare : {S : Type 0} → Outcome S → Type 0

@@ -17,13 +17,14 @@ use Rattle.wire.specs.declared.streams.StreamName.{StreamName}
 use Rattle.replica.specs.Groups.{Group}
 use Rattle.client.specs.Requests.{is_same}
 use Rattle.model_streams.specs.Outcome.{packet}
-use Rattle.model_streams.specs.StreamSystem.{StreamSystem, Move, run_moves, start, sent_more}
+use Rattle.model_streams.specs.StreamSystem.{StreamSystem, Move, run_moves, start, sent_more, is_table_note}
 use Rattle.model_streams.specs.StreamSystem.Move.{Asks, Says, Observes}
 use Rattle.laws_streams.proofs.Invariant.{run_moves_push}
 use Rattle.laws_streams.proofs.ContentAnswers.{content_answered}
 use Rattle.laws_streams.proofs.StreamAnswers.{openings_answered, confirmations_answered, extensions_answered}
 use Rattle.model_partition.specs.declared.table_note.TableNote.{TableNote}
 use Rattle.model_partition.specs.Servers.{ServerCell, told, noted, with_told}
+use Rattle.model_partition.specs.Cluster.{told_by_map}
 use Rattle.model_histories.specs.ServerTurns.{Turn, Whole, after_all}
 use Rattle.model_histories.specs.ServerTurns as machine
 use Rattle.laws_stream_machine.specs.Refinement.{Purpose, Sent, asked_number, meant_number, IsAsked}
@@ -35,7 +36,8 @@ use Rattle.laws_ranges.specs.Serves.{sent_with}
 use Rattle.laws_ranges.proofs.TurnsAsMoves.{moves_of}
 use Rattle.laws_servers.specs.Sending.{MaySend, MaySendAll}
 use Rattle.laws_servers.proofs.EventsAsMoves.{is_shown}
-use Rattle.laws_clusters.proofs.RequestNumbers.{IsPast, AreNumbersPast}
+use Rattle.laws_clusters.proofs.RequestNumbers.{IsPast, AreNumbersPast, asked_used}
+use Rattle.laws_clusters.proofs.ServerNotes.{AreChanges, change_shown}
 
 module _ (generation : ℕ → ℕ) (nodes target : ℕ) where
   abbrev pub system : List Move → StreamSystem
@@ -94,10 +96,10 @@ module _ (generation : ℕ → ℕ) (nodes target : ℕ) where
   -- a number that servers have not used is in no packet
   pub is_unused : (moves : List Move) (servers : List ServerCell) (q : ReqNo) → AreNumbersPast servers (system moves).post → (IsPast servers q → ⊥) → Unused (system moves) q
   is_unused moves servers q numbers new p c server v why = elim why [
-    | inl a ↦ differs (numbers server p.to p.body (subst (λ z. Contains (system moves).post (packet z p.to p.body)) a.0 c) v a.1)
+    | inl a ↦ differs (numbers server p.to p.body (subst (λ z. Contains (system moves).post (packet z p.to p.body)) a.0 c) v (asked_used p.body v a.1))
     | inr b ↦
         let a = meant_asked moves p.from server v p.body (subst (λ z. Contains (system moves).post (packet p.from z p.body)) b.0 c) b.1 in
-        differs (numbers server a.to a.body a.asked v a.number)
+        differs (numbers server a.to a.body a.asked v (asked_used a.body v a.number))
   ]
     where
       differs : IsPast servers v → is_same q v ≡ false
@@ -179,15 +181,17 @@ module _ (generation : ℕ → ℕ) (nodes target : ℕ) where
 
   -- ---- observations
 
-  one_shown : (moves : List Move) (note : TableNote) → Further moves (record (system moves) { notes = (system moves).notes ++ told (system moves).notes note ∷ [] }) []
-  one_shown moves note =
+  one_seen : (moves : List Move) (note : Note) → is_table_note note ≡ true → Further moves (record (system moves) { notes = (system moves).notes ++ note ∷ [] }) []
+  one_seen moves note shown =
       let w : StreamSystem = system moves in
-      let x : Note = told w.notes note in
       record {
-        after = Observes x ∷ [];
-        leads = run_moves_push moves (Observes x) (start nodes target) ∙ ap (λ (t : Bool). if t then record w { notes = w.notes ++ x ∷ [] } else w) (is_shown w.notes note);
-        below = λ name y sent a b. below_observes generation name nodes target moves y sent b x;
+        after = Observes note ∷ [];
+        leads = run_moves_push moves (Observes note) (start nodes target) ∙ ap (λ (t : Bool). if t then record w { notes = w.notes ++ note ∷ [] } else w) shown;
+        below = λ name y sent a b. below_observes generation name nodes target moves y sent b note;
       }
+
+  one_shown : (moves : List Move) (note : TableNote) → Further moves (record (system moves) { notes = (system moves).notes ++ told (system moves).notes note ∷ [] }) []
+  one_shown moves note = one_seen moves (told (system moves).notes note) (is_shown (system moves).notes note)
 
   all_shown : (moves : List Move) (ns : List TableNote) → Further moves (record (system moves) { notes = noted (system moves).notes ns }) []
   all_shown moves [] = none_more moves (record (system moves) { notes = noted (system moves).notes [] }) refl
@@ -212,5 +216,34 @@ module _ (generation : ℕ → ℕ) (nodes target : ℕ) where
       record {
         after = one.after ++ two.after;
         leads = ap system (sym (append_assoc moves one.after two.after)) ∙ two.leads ∙ ap (λ (z : StreamSystem). record z { notes = noted z.notes ns }) one.leads;
+        below = λ name x sent a b. subst (λ z. Below generation name nodes target z x sent) (append_assoc moves one.after two.after) (two.below name x sent tt (one.below name x sent a b));
+      }
+
+  -- what the map shows
+  changes_seen : (moves : List Move) (notes : List Note) → AreChanges notes → Further moves (record (system moves) { notes = (system moves).notes ++ notes }) []
+  changes_seen moves [] changes = none_more moves (record (system moves) { notes = (system moves).notes ++ [] }) (ap (λ (k : List Note). record (system moves) { notes = k }) (sym (append-nil (system moves).notes)))
+  changes_seen moves (n ∷ notes) changes =
+      let w : StreamSystem = system moves in
+      let one : Further moves (record w { notes = w.notes ++ n ∷ [] }) [] = one_seen moves n (change_shown n changes.0) in
+      let next : List Move = moves ++ one.after in
+      let two : Further next (record (system next) { notes = (system next).notes ++ notes }) [] = changes_seen next notes changes.1 in
+      record {
+        after = one.after ++ two.after;
+        leads =
+            ap system (sym (append_assoc moves one.after two.after)) ∙ two.leads ∙ ap (λ (z : StreamSystem). record z { notes = z.notes ++ notes }) one.leads
+            ∙ ap (λ (k : List Note). record w { notes = k }) (append_assoc w.notes (n ∷ []) notes);
+        below = λ name x sent a b. subst (λ z. Below generation name nodes target z x sent) (append_assoc moves one.after two.after) (two.below name x sent tt (one.below name x sent tt b));
+      }
+
+  -- what the map sends and shows
+  pub told_further : (moves : List Move) (ps : List Packet) (notes : List Note) → MaySendAll ps → AreChanges notes → Further moves (told_by_map (system moves) ps notes) ps
+  told_further moves ps notes may changes =
+      let w : StreamSystem = system moves in
+      let one : Further moves (sent_more w ps) ps = all_posted moves ps may in
+      let next : List Move = moves ++ one.after in
+      let two : Further next (record (system next) { notes = (system next).notes ++ notes }) [] = changes_seen next notes changes in
+      record {
+        after = one.after ++ two.after;
+        leads = ap system (sym (append_assoc moves one.after two.after)) ∙ two.leads ∙ ap (λ (z : StreamSystem). record z { notes = z.notes ++ notes }) one.leads;
         below = λ name x sent a b. subst (λ z. Below generation name nodes target z x sent) (append_assoc moves one.after two.after) (two.below name x sent tt (one.below name x sent a b));
       }

@@ -1,7 +1,7 @@
 -- Whole runs with servers in which no range is split and no two are merged: the servers see streams that keep their order, and so what
 -- they show of tables replays.
-use Rattle.std.proofs.Common.{◌≡◌, ℕ, zero, suc, ◌+◌, Bool, true, false, nat_lt, List, [], ◌∷◌, ◌++◌, map, Option, Some, None, Contains, slice_get, refl, sym, ap, ◌∙◌, subst, inl, inr, arith, if◌then◌else◌}
-use Rattle.block_types.specs.declared.record.Nodes.{Nodes}
+use Rattle.std.proofs.Common.{◌≡◌, ℕ, zero, suc, ◌+◌, Bool, true, false, nat_lt, List, [], ◌∷◌, ◌++◌, Option, Some, None, Contains, slice_get, refl, sym, ap, ◌∙◌, subst, inl, inr, arith, if◌then◌else◌, ◌&&◌, ◌==◌, nat_le}
+use Rattle.std.proofs.lemmas.Bool.{eqb-true}
 use Rattle.wire.specs.declared.actor.ActorId.{ActorId}
 use Rattle.wire.specs.declared.actor.ActorId.TheVariants.{Node, Manager, Map, Server, User}
 use Rattle.wire.specs.declared.actor.ReqNo.{ReqNo}
@@ -17,40 +17,42 @@ use Rattle.model_streams.specs.declared.event.Event.{Event}
 use Rattle.model_streams.specs.declared.event.Event.TheVariants.{Submit, Deliver, Stop, Restart, Decide, GiveUp, Assign, Renew, Moment, Checkpoint, Split, Merge}
 use Rattle.model_streams.specs.Maps.{entry_at}
 use Rattle.model_streams.specs.Outcome.{packet}
-use Rattle.model_streams.specs.StreamSystem.{StreamSystem, delivered, delivered_if}
-use Rattle.model_partition.specs.Servers.{ServerCell, first_pick, first_server, first_servers, told_moment}
+use Rattle.streams.specs.Streams.{kind_number, empty_stream}
+use Rattle.model_streams.specs.StreamSystem.{StreamSystem, start}
+use Rattle.model_partition.specs.Servers.{ServerCell, first_pick, first_server, first_servers}
 use Rattle.model_partition.specs.Cluster as clusters
 use Rattle.model_partition.specs.Cluster.{Cluster, delivered_to, delivers, stops, restarts, shows_moment, cluster_after, cluster_after_all, first_cluster}
 use Rattle.model_partition.specs.Honest.{Honest}
 use Rattle.model_partition.specs.Past.{Bytes, Replays, first_range}
+use Rattle.model_partition.specs.declared.split_job.SplitJob.{SplitJob}
 use Rattle.model_partition.specs.Range.{RangeState}
-use Rattle.model_partition.specs.Server.{ServerState, range_of, started}
-use Rattle.model_histories.specs.ServedTables.{IsAtLine, IsOfFirst, AreFirst, AreUnsplit, LoadsOnce, StreamsInOrder, ServesAt}
+use Rattle.model_partition.specs.Server.{ServerState, split_of, range_of, started}
+use Rattle.model_histories.specs.ServedTables.{IsAtLine, IsOfFirst, AreFirst, AreSeenAs, AreUnsplit, LoadsOnce, StreamsInOrder, ServesAt}
 use Rattle.model_histories.specs.ServerTurns.{AreMoves}
 use Rattle.model_histories.specs.ServerRun.{ServerRun, ServerEvent, Takes, GivesUp, Checkpoints, Moment as MomentSo, stream_named, first_run, run_of, log_name}
 use Rattle.model_histories.specs.Story.{Copy, KeepsOrder, Story, EndsRise}
 use Rattle.model_histories.specs.TableContents.{AllTellRightly}
+use Rattle.laws_stream_machine.specs.Refinement.{IsThere}
 use Rattle.laws_stream_machine.proofs.LowerLayer.{below_start}
-use Rattle.laws_ranges.specs.Serves.{Apart, metadata_of, log_of}
+use Rattle.laws_ranges.specs.Serves.{Apart}
 use Rattle.laws_streams.proofs.Choices.{contains_get}
 use Rattle.laws_server_runs.proofs.LoadedWithin.{loaded_within}
 use Rattle.laws_server_runs.proofs.Theorem.{unsplit_replays, unsplit_served}
 use Rattle.laws_server_runs.proofs.Unsplit.{HaveNoJobs, no_jobs}
 use Rattle.laws_servers.proofs.EventsAsMoves.{led_agrees, led_keeps}
 use Rattle.laws_clusters.specs.Orders.{ComesOfStreams}
-use Rattle.laws_clusters.specs.ServerEvents.{packet_events, delivery_events, stop_events, start_events, server_events, server_events_after, servers_of_run}
+use Rattle.laws_clusters.specs.ServerEvents.{built_events, packet_events, delivery_events, stop_events, start_events, server_events, server_events_after, servers_of_run}
 use Rattle.laws_clusters.proofs.Generations.{generation_at, plenty}
-use Rattle.laws_clusters.proofs.Invariant.{HeldAt, Machines, HasNumber, AreBeside, Runs, Standing}
-use Rattle.laws_clusters.proofs.MapSteps.{map_takes_stand, assigns_stand, renews_stand, map_stops_stand, map_starts_stand}
+use Rattle.laws_clusters.proofs.Invariant.{SplitAt, Waiter, OfRows, OfSeal, OfCall, Waits, HeldAt, Machines, HasNumber, IsBeside, AreBeside, Runs, Standing}
 use Rattle.laws_clusters.proofs.ObservedBytes.{observed_stand}
-use Rattle.laws_clusters.proofs.OneRange.{IsWord}
-use Rattle.laws_clusters.proofs.OtherEvents.{stops_stand, starts_stand, moment_stands}
+use Rattle.laws_clusters.proofs.OneRange.{IsOneRange, one_range_on, assigns_first, builds_none, completes_none, first_is_one}
 use Rattle.laws_server_runs.specs.Places.{AreAscending}
-use Rattle.laws_clusters.proofs.ServerPackets.{takes_stands, gives_up_stands, checkpoints_stand}
+use Rattle.laws_clusters.proofs.ServerPackets.{none_stands, none_gives_up_then}
 use Rattle.laws_clusters.proofs.ServerRules.{IsLaid}
 use Rattle.laws_clusters.proofs.StreamOrders.{m_order, l_order, m_once, l_once, m_ends, l_ends, in_order}
+use Rattle.laws_clusters.proofs.RangeStreams.{HasStreams}
 use Rattle.laws_clusters.proofs.ShownBytes.{texts, all_right}
-use Rattle.laws_clusters.proofs.StreamLayerSteps.{happens_stands}
+use Rattle.laws_clusters.proofs.ClusterEvents.{whole, PacketOwes, EventOwes, comes_on}
 
 first_is : (batch k n j : ℕ) (cell : ServerCell) → slice_get (first_servers batch k n) j ≡ Some cell → cell ≡ first_server batch (k + j)
 first_is batch k zero j cell e = absurd cc
@@ -91,9 +93,10 @@ module _ (nodes target batch count : ℕ) where
   abbrev Stands : Cluster → ServerRun → Type 0
   Stands c y = Standing generation_at nodes target c y
 
-  -- a cluster stands with the servers that this makes, which are assigned the first range alone
+  -- a cluster with one range stands with the servers that this makes, which are assigned the first range alone
   record StandsWith (c : Cluster) (coming : List ServerEvent) : Type 0 where
     stands : Stands c (run coming)
+    one : IsOneRange c
     first : AreFirst coming
     unsplit : AreUnsplit coming
 
@@ -106,13 +109,41 @@ module _ (nodes target batch count : ℕ) where
   empty_number q (p, inl e) = cc
   empty_number q (p, inr e) = cc
 
+  -- the streams of the first range are there, and no others
+  first_streams_are : HasStreams (start nodes target) first_range
+  first_streams_are kinds.Metadata = (empty_stream 0, refl)
+  first_streams_are kinds.Log = (empty_stream 0, refl)
+  first_streams_are kinds.RowData = (empty_stream 0, refl)
+  first_streams_are kinds.BlobData = (empty_stream 0, refl)
+
+  empty_stream_beside : (range : ℕ) (kind : StreamKind) → IsBeside generation_at nodes target [] (stream_named range kind) [] []
+  empty_stream_beside range kind = go (range == 1) refl
+    where
+      go : (b : Bool) → (range == 1) ≡ b → IsBeside generation_at nodes target [] (stream_named range kind) [] []
+      go true is = inl (record {
+        there = subst (λ n. IsThere (start nodes target) (stream_named n kind)) (sym (eqb-true range 1 is)) (first_streams_are kind);
+        below = below_start generation_at (stream_named range kind) nodes target;
+      })
+      go false is = inr (record {
+        absent = record {
+          nobody = record {
+            opens = λ server to n g q there. absurd (let l = there.1 in omega (arith, l));
+            confirms = λ server to n g q there. absurd (let l = there.1 in omega (arith, l));
+            extends = λ server to stream g last pick q there. absurd (let l = there.1 in omega (arith, l));
+          };
+          absent = ap (λ t. if t && nat_le (kind_number kind) 3 then Some (empty_stream 0) else None) is;
+        };
+        none_done = refl;
+        none_sent = refl;
+      })
+
   empty_beside : (range : ℕ) → AreBeside generation_at nodes target [] range empty
   empty_beside range = record {
     m_are = tt;
     l_are = tt;
     apart = none_apart;
-    metadata = λ counted. below_start generation_at (metadata_of range) nodes target;
-    log = λ counted. below_start generation_at (log_of range) nodes target;
+    metadata = λ counted. empty_stream_beside range kinds.Metadata;
+    log = λ counted. empty_stream_beside range kinds.Log;
   }
 
   first_stands : StandsWith (first_cluster nodes count target batch) []
@@ -125,10 +156,13 @@ module _ (nodes target batch count : ℕ) where
       distinct = λ one other apart q has. (refl, refl);
       past = λ range q has. absurd (empty_number q has);
       numbers = λ server to body there. absurd (let l = there.1 in omega (arith, l));
-      rows = λ s range r held q waits. absurd (none_held s range r held);
+      out = λ s range by q waits. absurd (none_waits s range by q waits);
       from_map = λ to body there. absurd (let l = there.1 in omega (arith, l));
-      no_change = λ p there. absurd (let l = there.1 in omega (arith, l));
-      first_range = (refl, tt);
+      counted = record { next = omega arith; entries = refl };
+      have = (first_streams_are, tt);
+      first = first_streams_are;
+      there = λ s range r held. absurd (none_held s range r held);
+      lists = λ server to list q there. absurd (let l = there.1 in omega (arith, l));
       incarnation = λ s range. None;
       bound = 0;
       own = λ s t j k i e f. absurd cc;
@@ -142,6 +176,7 @@ module _ (nodes target batch count : ℕ) where
       acked = λ range. tt;
       told = λ texts all. tt;
     };
+    one = first_is_one nodes count target batch;
     first = tt;
     unsplit = tt;
   }
@@ -159,10 +194,22 @@ module _ (nodes target batch count : ℕ) where
             session = ap (λ (z : ServerState). z.context.session) (sym same) ∙ sym (ap (λ (z : ServerCell). z.session) is);
             ascending = subst (λ (z : ServerState). AreAscending z.ranges) same tt;
             held = λ range r found. absurd (let e : None ≡ Some r = ap (λ (z : ServerState). range_of z.ranges range) same ∙ found in cc);
+            splits_ascending = subst (λ (z : ServerState). AreAscending z.splits) same tt;
+            split_held = λ range job found. absurd (let e : None ≡ Some job = ap (λ (z : ServerState). split_of z.splits range) same ∙ found in cc);
           }
 
       none_held : (s range : ℕ) (r : RangeState) → HeldAt (first_servers batch 1 count) s range r → ⊥
       none_held s range r held = let h = (first_runs s held.cell held.state held.there held.up).held range r held.found in let z : None ≡ Some h.incarnation = h.is in cc
+
+      none_split : (s range : ℕ) (job : SplitJob) → SplitAt (first_servers batch 1 count) s range job → ⊥
+      none_split s range job split =
+          let h = (first_runs s split.cell split.state split.there split.up).split_held range job split.found in
+          none_held s range h.0 (record { cell = split.cell; state = split.state; there = split.there; up = split.up; found = h.1 })
+
+      none_waits : (s range : ℕ) (by : Waiter) (q : ReqNo) → Waits (first_servers batch 1 count) s range by q → ⊥
+      none_waits s range OfRows q waits = none_held s range waits.0 waits.1
+      none_waits s range OfSeal q waits = none_split s range waits.0 waits.1
+      none_waits s range OfCall q waits = none_split s range waits.0 waits.1
 
   -- ---- events
 
@@ -177,98 +224,111 @@ module _ (nodes target batch count : ℕ) where
     none : HaveNoJobs c.servers
     none = subst HaveNoJobs (sym x.stands.cells) (no_jobs batch count coming x.unsplit)
 
-    -- nothing comes to servers
-    aside : (d : Cluster) → Stands d y → StandsWith d coming
-    aside d stands = record { stands = stands; first = x.first; unsplit = x.unsplit }
+    -- it assigns the first range alone, and none is split
+    abbrev IsFirstOnly : List ServerEvent → Type 0
+    IsFirstOnly later = AreFirst later × AreUnsplit later
 
     -- the map assigns the first range alone
     is_first : (p : Packet) → Contains c.stream_layer.post p → IsOfFirst p.from p.body
     is_first p there = go p.from p.body refl refl
       where
-        by : (body : Body) → IsWord body → IsOfFirst Map body
-        by (bodies.Map (maps.Assign range g until)) word = word
-        by (bodies.Map body) word = tt
-        by body word = tt
+        by : (body : Body) → Contains c.stream_layer.post (packet Map p.to body) → IsOfFirst Map body
+        by (bodies.Map (maps.Assign range g until)) sent = assigns_first c x.one p.to range g until sent
+        by (bodies.Map body) sent = tt
+        by body sent = tt
 
         go : (from : ActorId) (body : Body) → p.from ≡ from → p.body ≡ body → IsOfFirst from body
-        go Map body e f =
-            by body (x.stands.from_map p.to body (subst (λ b. Contains c.stream_layer.post (packet Map p.to b)) f (subst (λ a. Contains c.stream_layer.post (packet a p.to p.body)) e there)))
+        go Map body e f = by body (subst (λ b. Contains c.stream_layer.post (packet Map p.to b)) f (subst (λ a. Contains c.stream_layer.post (packet a p.to p.body)) e there))
         go (Node n) body e f = tt
         go Manager body e f = tt
         go (Server s) body e f = tt
         go (User u) body e f = tt
 
-    takes_all : (s : ℕ) (p : Packet) → Contains c.stream_layer.post p → p.to ≡ Server s → StandsWith (delivered_to c p (Server s)) (Takes s p ∷ coming)
-    takes_all s p there to =
-        let first : AreFirst (Takes s p ∷ coming) = (is_first p there, x.first) in
-        let unsplit : AreUnsplit (Takes s p ∷ coming) = (tt, x.unsplit) in
-        record { stands = takes_stands generation_at plenty nodes target c y x.stands none s p there to (run_laid (Takes s p ∷ coming) unsplit); first = first; unsplit = unsplit }
+    -- ---- what comes to servers
 
-    delivers_all : (number : ℕ) (o : Option Packet) → slice_get c.stream_layer.post number ≡ o → StandsWith (delivers c o) (delivery_events o ++ coming)
-    delivers_all number None at = x
-    delivers_all number (Some p) at = go p.to refl
+    delivered_first : (number : ℕ) (o : Option Packet) → slice_get c.stream_layer.post number ≡ o → IsFirstOnly (delivery_events c o ++ coming)
+    delivered_first number None at = (x.first, x.unsplit)
+    delivered_first number (Some p) at = go p.to
       where
         there : Contains c.stream_layer.post p
         there = contains_get c.stream_layer.post number p at
 
-        layer_takes : (to : ActorId) → p.to ≡ to → Stands (record c { stream_layer = delivered c.stream_layer p to }) y
-        layer_takes to is =
-            subst (λ z. Stands (record c { stream_layer = z }) y) (ap (delivered_if c.stream_layer) at ∙ ap (delivered c.stream_layer p) is) (happens_stands generation_at nodes target c y x.stands (Deliver number))
+        go : (to : ActorId) → IsFirstOnly (packet_events c to p ++ coming)
+        go (Server s) = ((is_first p there, x.first), (tt, x.unsplit))
+        go Manager = subst (λ l. IsFirstOnly (built_events l ++ coming)) (sym (builds_none c x.one p there)) (x.first, x.unsplit)
+        go (Node n) = (x.first, x.unsplit)
+        go Map = (x.first, x.unsplit)
+        go (User u) = (x.first, x.unsplit)
 
-        go : (to : ActorId) → p.to ≡ to → StandsWith (delivered_to c p to) (packet_events to p ++ coming)
-        go (Server s) is = takes_all s p there is
-        go (Node n) is = aside _ (layer_takes (Node n) is)
-        go Manager is = aside _ (layer_takes Manager is)
-        go Map is = aside _ (map_takes_stand generation_at nodes target y c p (x.stands.no_change p there) x.stands)
-        go (User u) is = aside _ (layer_takes (User u) is)
+    stopped_first : (actor : ActorId) (call : ℕ) → IsFirstOnly (stop_events actor call ++ coming)
+    stopped_first (Server s) call = ((tt, x.first), (tt, x.unsplit))
+    stopped_first (Node n) call = (x.first, x.unsplit)
+    stopped_first Manager call = (x.first, x.unsplit)
+    stopped_first Map call = (x.first, x.unsplit)
+    stopped_first (User u) call = (x.first, x.unsplit)
 
-    stops_all : (actor : ActorId) (call : ℕ) (keep : Bool) → StandsWith (stops c actor call keep) (stop_events actor call ++ coming)
-    stops_all (Server s) call keep = record { stands = stops_stand generation_at nodes target c y s call x.stands; first = (tt, x.first); unsplit = (tt, x.unsplit) }
-    stops_all (Node n) call keep = aside _ (happens_stands generation_at nodes target c y x.stands (Stop (Node n) call keep))
-    stops_all Manager call keep = aside _ (happens_stands generation_at nodes target c y x.stands (Stop Manager call keep))
-    stops_all Map call keep = aside _ (map_stops_stand generation_at nodes target y c call keep x.stands)
-    stops_all (User u) call keep = aside _ (happens_stands generation_at nodes target c y x.stands (Stop (User u) call keep))
+    started_first : (actor : ActorId) → IsFirstOnly (start_events c actor ++ coming)
+    started_first (Server s) = ((tt, x.first), (tt, x.unsplit))
+    started_first (Node n) = (x.first, x.unsplit)
+    started_first Manager = (x.first, x.unsplit)
+    started_first Map = (x.first, x.unsplit)
+    started_first (User u) = (x.first, x.unsplit)
 
-    restarts_all : (actor : ActorId) → StandsWith (restarts c actor) (start_events c actor ++ coming)
-    restarts_all (Server s) = record { stands = starts_stand generation_at nodes target c y s c.now c.batch x.stands; first = (tt, x.first); unsplit = (tt, x.unsplit) }
-    restarts_all (Node n) = aside _ (happens_stands generation_at nodes target c y x.stands (Restart (Node n)))
-    restarts_all Manager = aside _ (happens_stands generation_at nodes target c y x.stands (Restart Manager))
-    restarts_all Map = aside _ (map_starts_stand generation_at nodes target y c x.stands)
-    restarts_all (User u) = aside _ (happens_stands generation_at nodes target c y x.stands (Restart (User u)))
-
-    moment_all : (now : ℕ) → StandsWith (shows_moment c now) (server_events c (Moment now) ++ coming)
-    moment_all now = go (nat_lt now c.now)
+    moment_first : (now : ℕ) → IsFirstOnly (server_events c (Moment now) ++ coming)
+    moment_first now = go (nat_lt now c.now)
       where
-        go : (b : Bool) → StandsWith (if b then c else record c { now = now; servers = map (told_moment now) c.servers }) ((if b then [] else MomentSo now ∷ []) ++ coming)
-        go true = x
-        go false = record { stands = moment_stands generation_at nodes target c y now x.stands; first = (tt, x.first); unsplit = (tt, x.unsplit) }
+        go : (b : Bool) → IsFirstOnly ((if b then [] else MomentSo now ∷ []) ++ coming)
+        go true = (x.first, x.unsplit)
+        go false = ((tt, x.first), (tt, x.unsplit))
 
-    gives_up_all : (s range : ℕ) (pick : Nodes) → StandsWith (cluster_after c (GiveUp s range pick)) (GivesUp s range pick ∷ coming)
-    gives_up_all s range pick =
-        let first : AreFirst (GivesUp s range pick ∷ coming) = (tt, x.first) in
-        let unsplit : AreUnsplit (GivesUp s range pick ∷ coming) = (tt, x.unsplit) in
-        record { stands = gives_up_stands generation_at plenty nodes target c y x.stands none s range pick (run_laid (GivesUp s range pick ∷ coming) unsplit); first = first; unsplit = unsplit }
+    -- whatever comes, but for a split
+    comes_first : (event : Event) → clusters.IsUnsplit event → IsFirstOnly (server_events c event ++ coming)
+    comes_first (Submit user to body) is = (x.first, x.unsplit)
+    comes_first (Deliver number) is = delivered_first number (slice_get c.stream_layer.post number) refl
+    comes_first (Stop actor call keep) is = stopped_first actor call
+    comes_first (Restart actor) is = started_first actor
+    comes_first (Decide e) is = (x.first, x.unsplit)
+    comes_first (GiveUp server range pick) is = ((tt, x.first), (tt, x.unsplit))
+    comes_first (Assign range server until) is = (x.first, x.unsplit)
+    comes_first (Renew range server until) is = (x.first, x.unsplit)
+    comes_first (Moment now) is = moment_first now
+    comes_first (Checkpoint server range combine) is = ((tt, x.first), (tt, x.unsplit))
+    comes_first (Split server range key) is = absurd is
+    comes_first (Merge server left right) is = absurd is
 
-    checkpoints_all : (s range : ℕ) (combine : Bool) → StandsWith (cluster_after c (Checkpoint s range combine)) (Checkpoints s range combine ∷ coming)
-    checkpoints_all s range combine =
-        let first : AreFirst (Checkpoints s range combine ∷ coming) = (tt, x.first) in
-        let unsplit : AreUnsplit (Checkpoints s range combine ∷ coming) = (tt, x.unsplit) in
-        record { stands = checkpoints_stand generation_at plenty nodes target c y x.stands none s range combine (run_laid (Checkpoints s range combine ∷ coming) unsplit); first = first; unsplit = unsplit }
+    -- ---- nothing is owed
 
-    -- whatever comes, but for a split or a merge
+    packet_owes : (p : Packet) → Contains c.stream_layer.post p → (to : ActorId) → PacketOwes nodes target batch count c coming x.stands p to
+    packet_owes p there (Server s) = (
+      (λ cell at st is. none_stands generation_at plenty nodes target c y x.stands s cell st at is (whole nodes target batch count c coming x.stands s cell at st is) (none s cell at st is).0),
+      run_laid (Takes s p ∷ coming) (tt, x.unsplit),
+    )
+    packet_owes p there Map = completes_none c x.one p there
+    packet_owes p there (Node n) = tt
+    packet_owes p there Manager = tt
+    packet_owes p there (User u) = tt
+
+    nothing_owed : (event : Event) → clusters.IsUnsplit event → EventOwes nodes target batch count c coming x.stands event
+    nothing_owed (Deliver number) is = λ p at. packet_owes p (contains_get c.stream_layer.post number p at) p.to
+    nothing_owed (GiveUp s range pick) is = (
+      none_gives_up_then generation_at plenty nodes target c y x.stands (whole nodes target batch count c coming x.stands) s range pick (λ cell at st is. (none s cell at st is).0),
+      run_laid (GivesUp s range pick ∷ coming) (tt, x.unsplit),
+    )
+    nothing_owed (Checkpoint s range combine) is = run_laid (Checkpoints s range combine ∷ coming) (tt, x.unsplit)
+    nothing_owed (Split s range key) is = absurd is
+    nothing_owed event is = tt
+
+    unmerged : (event : Event) → clusters.IsUnsplit event → clusters.IsUnmerged event
+    unmerged (Merge server left right) is = absurd is
+    unmerged event is = tt
+
     comes_stands : (event : Event) → clusters.IsUnsplit event → StandsWith (cluster_after c event) (server_events c event ++ coming)
-    comes_stands (Submit user to body) is = aside _ (happens_stands generation_at nodes target c y x.stands (Submit user to body))
-    comes_stands (Deliver number) is = delivers_all number (slice_get c.stream_layer.post number) refl
-    comes_stands (Stop actor call keep) is = stops_all actor call keep
-    comes_stands (Restart actor) is = restarts_all actor
-    comes_stands (Decide e) is = aside _ (happens_stands generation_at nodes target c y x.stands (Decide e))
-    comes_stands (GiveUp server range pick) is = gives_up_all server range pick
-    comes_stands (Assign range server until) is = aside _ (assigns_stand generation_at nodes target y c range server until x.stands)
-    comes_stands (Renew range server until) is = aside _ (renews_stand generation_at nodes target y c range server until x.stands)
-    comes_stands (Moment now) is = moment_all now
-    comes_stands (Checkpoint server range combine) is = checkpoints_all server range combine
-    comes_stands (Split server range key) is = absurd is
-    comes_stands (Merge server left right) is = absurd is
+    comes_stands event is = record {
+      stands = comes_on nodes target batch count c coming x.stands event (unmerged event is) (nothing_owed event is);
+      one = one_range_on c x.one event is;
+      first = (comes_first event is).0;
+      unsplit = (comes_first event is).1;
+    }
 
   led_stands : (events : List Event) → clusters.AreUnsplit events → (c : Cluster) (coming : List ServerEvent) → StandsWith c coming →
       StandsWith (cluster_after_all c events) (server_events_after c coming events)
@@ -278,7 +338,7 @@ module _ (nodes target batch count : ℕ) where
 
   -- ---- what servers see
 
-  module _ (c : Cluster) (y : ServerRun) (x : Stands c y) where
+  module _ (c : Cluster) (y : ServerRun) (x : Stands c y) (one : IsOneRange c) where
     m_are : (range : ℕ) → AreMoves Group generation_at (x.machines range).m
     m_are range = (x.beside range).m_are
 
@@ -312,7 +372,7 @@ module _ (nodes target batch count : ℕ) where
       );
       shown = λ texts all range. observed_stand texts c.stream_layer.notes (y.shown range) all (x.observed range);
       answered = λ texts all range. observed_stand texts c.stream_layer.notes (y.answered range) all (x.acked range);
-      told = x.told;
+      told = λ texts all. subst (λ ns. AreSeenAs texts y.notes ns) one.unchanged (x.told texts all);
     }
 
     -- over any texts that have all that was observed
@@ -322,16 +382,16 @@ module _ (nodes target batch count : ℕ) where
   -- what a cluster shows replays
   stands_replays : (c : Cluster) (coming : List ServerEvent) → StandsWith c coming → Replays c.stream_layer.notes
   stands_replays c coming x =
-      let o : ComesOfStreams c (run coming) = stands_ordered c (run coming) x.stands in
+      let o : ComesOfStreams c (run coming) = stands_ordered c (run coming) x.stands x.one in
       let bytes : ℕ → Bytes = (o.contents).0 in
       let right : AllTellRightly bytes c.stream_layer.notes = (o.contents).1 in
-      unsplit_replays bytes batch count coming c.stream_layer.notes x.unsplit x.first (all_in_order c (run coming) x.stands bytes right first_range) (o.told bytes right)
+      unsplit_replays bytes batch count coming c.stream_layer.notes x.unsplit x.first (all_in_order c (run coming) x.stands x.one bytes right first_range) (o.told bytes right)
 
   -- each range that is served is at its line, over any texts that have all that was observed
   stands_at_line : (c : Cluster) (coming : List ServerEvent) → StandsWith c coming → (texts : ℕ → Bytes) → AllTellRightly texts c.stream_layer.notes → (s range : ℕ) (r : RangeState) →
       ServesAt (run coming) s range r → (order : KeepsOrder ((run coming).story (log_name range))) → IsAtLine texts ((run coming).story (log_name range)) order.copies r
   stands_at_line c coming x texts all s range r at order =
-      unsplit_served texts batch count coming s range r x.unsplit (all_in_order c (run coming) x.stands texts all range) at order
+      unsplit_served texts batch count coming s range r x.unsplit (all_in_order c (run coming) x.stands x.one texts all range) at order
 
 abbrev pub after_run : (nodes servers target batch : ℕ) → List Event → Cluster
 after_run nodes servers target batch events = cluster_after_all (first_cluster nodes servers target batch) events
@@ -346,6 +406,7 @@ pub led_ordered : (nodes servers target batch : ℕ) (events : List Event) → c
     ComesOfStreams (after_run nodes servers target batch events) (servers_of_run nodes servers target batch events)
 led_ordered nodes servers target batch events are =
     stands_ordered nodes target batch servers (after_run nodes servers target batch events) (servers_of_run nodes servers target batch events) (run_stands nodes servers target batch events are).stands
+    (run_stands nodes servers target batch events are).one
 
 -- and what they show replays
 pub led_replays : (nodes servers target batch : ℕ) (events : List Event) → clusters.AreUnsplit events → Replays (after_run nodes servers target batch events).stream_layer.notes

@@ -14,21 +14,21 @@ use Rattle.metadata.specs.Reading.{flag_at, place_at, position_at, next_at, chec
 use Rattle.model_partition.specs.CheckpointStates.{CheckpointState}
 use Rattle.model_partition.specs.Range.{RangeState}
 use Rattle.model_histories.specs.StreamActions.{record_group}
-use Rattle.laws_log_reads.specs.Reads.{IsCheckpoint, SaysCheckpoint}
+use Rattle.laws_log_reads.specs.Reads.{LeavesOneRegion, SaysOneRegion}
 
 -- what stands behind a number
-behind_number : (x : ℕ) (rest : List ℕ) (read : ℕ × List ℕ) → number_at 8 (number 8 x ++ rest) ≡ Some read → read.1 ≡ rest
+pub behind_number : (x : ℕ) (rest : List ℕ) (read : ℕ × List ℕ) → number_at 8 (number 8 x ++ rest) ≡ Some read → read.1 ≡ rest
 behind_number x rest read e =
     let g = unless_some (ltb (length (number 8 x ++ rest)) 8) _ read e in
     let rest_is : drop 8 (number 8 x ++ rest) ≡ read.1 = ap (λ (p : ℕ × List ℕ). p.1) g.1 in
     sym rest_is ∙ drop_at (number 8 x) rest 8 (length-number 8 x)
 
-item_read : (fields : List ℕ) (item : MetaItem) → checkpoint_at fields ≡ Some item → IsCheckpoint item
+item_read : (fields : List ℕ) (item : MetaItem) → checkpoint_at fields ≡ Some item → LeavesOneRegion item
 unfolding checkpoint_at
 item_read fields item e =
     let x = bind_some (pair_at flag_at (pair_at place_at (pair_at position_at next_at)) fields) (λ x. whole (Some (Checkpoint x.0.0 x.0.1.0 x.0.1.1.0 x.0.1.1.1, x.1))) item e in
     let same = if_some (length x.0.1 == 0) (Checkpoint x.0.0.0 x.0.0.1.0 x.0.0.1.1.0 x.0.0.1.1.1) item x.2 in
-    subst (λ y. IsCheckpoint y) same.1 tt
+    subst (λ y. LeavesOneRegion y) same.1 tt
 
 module _ (n : ℕ) (combine : Bool) (at : Place) (start : Position) (next : ℕ) where
   abbrev fields : List ℕ
@@ -37,7 +37,7 @@ module _ (n : ℕ) (combine : Bool) (at : Place) (start : Position) (next : ℕ)
   abbrev bytes : List ℕ
   bytes = number 8 n ++ (number 1 2 ++ fields)
 
-  record_read : (r : MetaRecord) → record_at bytes ≡ Some r → IsCheckpoint r.item
+  record_read : (r : MetaRecord) → record_at bytes ≡ Some r → LeavesOneRegion r.item
   unfolding record_at next_at item_at
   record_read r e =
       let head = bind_some (next_at bytes) (λ z. number_at 1 z.1 >>= λ kind. item_at kind.0 kind.1 >>= λ item. Some (record { number = z.0; item = item })) r e in
@@ -49,8 +49,8 @@ module _ (n : ℕ) (combine : Bool) (at : Place) (start : Position) (next : ℕ)
       let item = bind_some (item_at kind.0.0 kind.0.1) (λ z. Some (record { number = head.0.0; item = z })) r kind.2 in
       let read : checkpoint_at fields ≡ Some item.0 = subst (λ (p : ℕ × List ℕ). item_at p.0 p.1 ≡ Some item.0) kind_is item.1 in
       let made : MetaRecord = record { number = head.0.0; item = item.0 } in
-      subst (λ (z : MetaRecord). IsCheckpoint z.item) (some_is made r item.2) (item_read fields item.0 read)
+      subst (λ (z : MetaRecord). LeavesOneRegion z.item) (some_is made r item.2) (item_read fields item.0 read)
 
 -- the group of a checkpoint's record says a checkpoint
-pub group_says : (r : RangeState) (job : CheckpointState) (index : Place) → SaysCheckpoint (record_group r job index)
+pub group_says : (r : RangeState) (job : CheckpointState) (index : Place) → SaysOneRegion (record_group r job index)
 group_says r job index = λ z e. record_read r.said.next job.combine index job.position job.next z e

@@ -26,7 +26,7 @@ use Rattle.laws_stream_machine.proofs.ExtentSteps.{Sized}
 use Rattle.laws_ranges.specs.Seen.{LoadIsRead}
 use Rattle.laws_ranges.specs.Serves.{Side, metadata_of, log_of, LoadOf, OfSealed, OfStood, IsConfirming, StageIs, Follows}
 use Rattle.laws_ranges.proofs.SealedCopies.{first_more}
-use Rattle.laws_log_reads.specs.Reads.{groups_in, StandsOnce, IsSized, AllSealed, AllRead, WereSealed, LastStood, Nothing, AllShown, HasCheckpoints, IsSole, first_index, HasReadAll, HasReadAt, HasRead}
+use Rattle.laws_log_reads.specs.Reads.{groups_in, StandsOnce, IsSized, AllSealed, AllRead, WereSealed, LastStood, Nothing, AllShown, HasOneRegion, IsSole, first_index, HasReadAll, HasReadAt, HasRead}
 use Rattle.laws_log_reads.proofs.SoleRegion.{reads_say, none_read, sole_open}
 use Rattle.laws_log_reads.proofs.ReadPlaces.{AreBelow, below_both, below_more, chain_below, none_below, behind_below, behind_placed, sealed_below}
 
@@ -176,7 +176,7 @@ module _ (generation : ℕ → ℕ) (range : ℕ) (w : StreamSystem) (i : ℕ) (
       }
 
   -- where all that stands in the metadata says checkpoints, and the log has no extent, the region that is left open begins at its first index
-  pub begins_rightly : IsConfirming generation range w i m l r → HasCheckpoints i m.stand.state → (region : Region) → open_region r.regions ≡ Some region → length r.log.extents ≡ 0 → region.start.index ≡ 0
+  pub begins_rightly : IsConfirming generation range w i m l r → HasOneRegion i m.stand.state → (region : Region) → open_region r.regions ≡ Some region → length r.log.extents ≡ 0 → region.start.index ≡ 0
   begins_rightly b all region is none =
       let a : HasReadAll range w i m.stand.state l.stand.state v.history r = all_read b.q b.phase in
       let base : r.log.base ≡ 0 = b.log.told.tells.ends none in

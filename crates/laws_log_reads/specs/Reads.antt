@@ -11,7 +11,7 @@ use Rattle.wire.specs.declared.streams.StreamKind.TheVariants as kinds
 use Rattle.wire.specs.declared.streams.StreamName.{StreamName}
 use Rattle.replica.specs.Groups.{Group, text}
 use Rattle.metadata.specs.declared.record.MetaItem.{MetaItem}
-use Rattle.metadata.specs.declared.record.MetaItem.TheVariants.{Checkpoint}
+use Rattle.metadata.specs.declared.record.MetaItem.TheVariants.{Regions}
 use Rattle.metadata.specs.declared.record.MetaRecord.{MetaRecord}
 use Rattle.metadata.specs.declared.record.Region.{Region}
 use Rattle.metadata.specs.Reading.{group_at}
@@ -130,33 +130,34 @@ module _ (name : StreamName) (w : StreamSystem) where
 
 -- ---- what the metadata says
 
-abbrev pub IsCheckpoint : MetaItem → Type 0
-IsCheckpoint (Checkpoint combine index position next) = Unit {0}
-IsCheckpoint item = ⊥
+-- a record of this leaves one region of the log to be applied, where one was left
+abbrev pub LeavesOneRegion : MetaItem → Type 0
+LeavesOneRegion (Regions indexes regions) = ⊥
+LeavesOneRegion item = Unit {0}
 
--- a group that spells a record spells that of a checkpoint
-abbrev pub SaysCheckpoint : Group → Type 0
-SaysCheckpoint group = (r : MetaRecord) → group_at group ≡ Some r → IsCheckpoint r.item
+-- a group that spells a record spells one of such an item
+abbrev pub SaysOneRegion : Group → Type 0
+SaysOneRegion group = (r : MetaRecord) → group_at group ≡ Some r → LeavesOneRegion r.item
 
-abbrev pub SayCheckpoints : List Group → Type 0
-SayCheckpoints [] = Unit {0}
-SayCheckpoints (group ∷ groups) = SaysCheckpoint group × SayCheckpoints groups
+abbrev pub SayOneRegion : List Group → Type 0
+SayOneRegion [] = Unit {0}
+SayOneRegion (group ∷ groups) = SaysOneRegion group × SayOneRegion groups
 
-abbrev pub AllSayCheckpoints : List ExtentRead → Type 0
-AllSayCheckpoints [] = Unit {0}
-AllSayCheckpoints (x ∷ older) = SayCheckpoints x.groups × AllSayCheckpoints older
+abbrev pub AllSayOneRegion : List ExtentRead → Type 0
+AllSayOneRegion [] = Unit {0}
+AllSayOneRegion (x ∷ older) = SayOneRegion x.groups × AllSayOneRegion older
 
--- all that stands in the metadata says checkpoints
-pub record HasCheckpoints (i : ℕ) (s : machine.MachineState Group) : Type 0 where
-  pub sealed : (index : ℕ) (y : machine.SealedExtent Group) → machine.shut_at index s.core.shut ≡ Some y → (c : Copy Group) → machine.In c y.copies → SaysCheckpoint c.group
-  pub stood : (index end : ℕ) (copies : List (Copy Group)) → machine.In (machine.Checked i index copies end) s.facts → (c : Copy Group) → machine.In c copies → SaysCheckpoint c.group
+-- so does all that stands in the metadata
+pub record HasOneRegion (i : ℕ) (s : machine.MachineState Group) : Type 0 where
+  pub sealed : (index : ℕ) (y : machine.SealedExtent Group) → machine.shut_at index s.core.shut ≡ Some y → (c : Copy Group) → machine.In c y.copies → SaysOneRegion c.group
+  pub stood : (index end : ℕ) (copies : List (Copy Group)) → machine.In (machine.Checked i index copies end) s.facts → (c : Copy Group) → machine.In c copies → SaysOneRegion c.group
 
 abbrev pub IsSole : List Region → Type 0
 IsSole regions = (region : Region) × (regions ≡ region ∷ [])
 
--- where all that was read says checkpoints, one region of the log is left to be applied
+-- where all that was read says so, one region of the log is left to be applied
 abbrev pub SaysSole : RangeHistory → RangeState → Type 0
-SaysSole h r = AllSayCheckpoints (h.reads kinds.Metadata) → IsSole r.said.regions
+SaysSole h r = AllSayOneRegion (h.reads kinds.Metadata) → IsSole r.said.regions
 
 -- ---- a range
 

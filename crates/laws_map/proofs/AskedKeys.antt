@@ -36,14 +36,14 @@ use Rattle.laws_map.proofs.OneOpening.{Whole, layered_whole, quiet_layer, cell_w
 
 -- ---- lists of servers
 
-set_twice : {A : Type 0} (xs : List A) (n : ℕ) (x y : A) → slice_set (slice_set xs n x) n y ≡ slice_set xs n y
+pub set_twice : {A : Type 0} (xs : List A) (n : ℕ) (x y : A) → slice_set (slice_set xs n x) n y ≡ slice_set xs n y
 set_twice [] n x y = refl
 set_twice (z ∷ zs) zero x y = refl
 set_twice (z ∷ zs) (suc n) x y = ap (λ l. z ∷ l) (set_twice zs n x y)
 
 -- ---- one event
 
-abbrev WholeOf : Cluster → Type 0
+abbrev pub WholeOf : Cluster → Type 0
 WholeOf c = Whole c.stream_layer c.servers
 
 module _ (c : Cluster) (h : WholeOf c) where
@@ -216,7 +216,7 @@ module _ (c : Cluster) (h : WholeOf c) where
   restart_whole Manager = layer_whole (Restart Manager)
   restart_whole (User u) = layer_whole (Restart (User u))
 
-  event_whole : (event : Event) → IsUnmerged event → WholeOf (cluster_after c event)
+  pub event_whole : (event : Event) → IsUnmerged event → WholeOf (cluster_after c event)
   event_whole (Submit user to body) apart = layer_whole (Submit user to body)
   event_whole (Deliver number) apart = delivers_whole number (slice_get c.stream_layer.post number) refl
   event_whole (Stop actor call keep) apart = stop_whole actor call keep
@@ -248,7 +248,7 @@ first_held batch k (suc n) = (record { ranges = tt; rising = tt; splits = tt; ap
 none_in : {p : Packet} → Contains [] p → ⊥
 none_in there = let less = there.1 in omega (arith, less)
 
-first_whole : (nodes servers target batch : ℕ) → WholeOf (first_cluster nodes servers target batch)
+pub first_whole : (nodes servers target batch : ℕ) → WholeOf (first_cluster nodes servers target batch)
 first_whole nodes servers target batch = record {
   openings = record {
     once = λ q n g m k a b. absurd (none_in a.sent);

@@ -16,6 +16,7 @@ pub mod GenerationsInRuns
 pub mod UsedNumbers
 pub mod GoneRanges
 pub mod PendingPairs
+pub mod PendingStays
 pub mod NamedRanges
 pub mod Unassigned
 pub mod QuietClients
@@ -28,3 +29,16 @@ pub mod ServerOpenings
 pub mod OneOpening
 pub mod AskedKeys
 pub mod NewNumbers
+pub mod GivenPairs
+pub mod GivenInRuns
+pub mod SplitStages
+pub mod ServerStages
+pub mod StagesStand
+pub mod LayerStages
+pub mod LayerAnswers
+pub mod ManagerBirths
+pub mod LayerBirths
+pub mod StagesKept
+pub mod StagesInRuns
+pub mod SplitFacts
+pub mod EventBirths

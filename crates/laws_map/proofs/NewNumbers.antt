@@ -1,6 +1,6 @@
 -- No range that a split makes has the number of one that the map has had, as of the first.
-use Rattle.std.proofs.Common.{◌≡◌, ◌∙◌, ◌+◌, ℕ, suc, inl, inr, Bool, true, false, ◌==◌, ◌^◌, nat_lt, List, [], ◌∷◌, Option, Some, None, slice_get, Contains, refl, sym, ap, subst, arith}
-use Rattle.std.proofs.lemmas.Bool.{eqb-false, eqb-true}
+use Rattle.std.proofs.Common.{◌≡◌, ◌∙◌, ◌+◌, ℕ, suc, inl, inr, Bool, true, false, ◌==◌, ◌^◌, nat_lt, List, [], ◌∷◌, Option, Some, None, Contains, refl, sym, ap, arith}
+use Rattle.std.proofs.lemmas.Bool.{eqb-false}
 use Rattle.wire.specs.declared.actor.ActorId.{ActorId}
 use Rattle.wire.specs.declared.actor.ActorId.TheVariants.{Map}
 use Rattle.wire.specs.declared.actor.ReqNo.{ReqNo}
@@ -11,7 +11,7 @@ use Rattle.wire.specs.declared.body.MapBody.TheVariants as maps
 use Rattle.wire.specs.declared.packet.Packet.{Packet}
 use Rattle.wire.specs.declared.refusal.Refusal.{Refusal}
 use Rattle.model_streams.specs.declared.event.Event.{Event}
-use Rattle.model_streams.specs.declared.event.Event.TheVariants.{Submit, Deliver, Stop, Restart, Decide, GiveUp, Assign, Renew, Moment, Checkpoint, Split, Merge}
+use Rattle.model_streams.specs.declared.event.Event.TheVariants.{Deliver, Assign, Renew, Split, Merge}
 use Rattle.model_streams.specs.Outcome.{Outcome, packet, silent}
 use Rattle.model_streams.proofs.Tests.{if_elim}
 use Rattle.model_partition.specs.declared.pending.Pending.{Pending}
@@ -22,12 +22,10 @@ use Rattle.model_partition.specs.Map.{MapState, range_at, range_of_key, halves_a
 use Rattle.model_partition.specs.MapRules.{assign_rule, renew_rule, has_numbers, begin_split_fault, begin_split_taken, begin_split_rule, complete_split_fault, complete_split_taken, complete_split_rule, begin_merge_fault, begin_merge_taken, begin_merge_rule, complete_merge_fault, complete_merge_rule, route_rule, called, told, map_rule}
 use Rattle.model_partition.specs.Partition.{one_if, uses_pending, IsSound}
 use Rattle.model_partition.specs.Cluster.{Cluster, cluster_after, cluster_after_all, first_cluster, IsUnmerged, AreUnmerged}
-use Rattle.laws_streams.proofs.Choices.{contains_get}
-use Rattle.laws_map.specs.Naming.{Each, Knowledge, PacketNames, BodyNames, Names}
-use Rattle.laws_map.specs.Assigned.{IsNone, IsSettled, AreSettled, assigning}
+use Rattle.laws_map.specs.Naming.{Knowledge}
+use Rattle.laws_map.specs.Assigned.{IsNone, IsSettled}
 use Rattle.laws_map.specs.NewNumbers.{apart_from, IsTaken}
 use Rattle.laws_map.proofs.Knowing.{Extends}
-use Rattle.laws_map.proofs.SplitNames.{Laws}
 use Rattle.laws_map.proofs.EventNames.{RuleNames, MapLaws, AskedIn, event_keeps}
 use Rattle.laws_map.proofs.SoundMaps.{RuleLeaves, event_leaves, event_sound, first_is_sound}
 use Rattle.laws_map.proofs.GivenNumbers.{halves_pending, first_cells}
@@ -154,7 +152,7 @@ module _ (n : ℕ) where
   asks_apart c event unmerged = tt
 
   -- what was settled stays so through the rule of the map that an event is
-  settled_leaves : (c : Cluster) (s : IsSound c.map) (k : IsSettled c.map n) (event : Event) → RuleLeaves (λ a. IsSettled a n) c k event
+  pub settled_leaves : (c : Cluster) (s : IsSound c.map) (k : IsSettled c.map n) (event : Event) → RuleLeaves (λ a. IsSettled a n) c k event
   settled_leaves c s k (Deliver number) = λ p at. (map_settles c.map s p p.body).extends.assigned n 0 k
   settled_leaves c s k (Assign range server until) = (assign_settles c.map s range server until (range_at c.map.ranges range) refl).extends.assigned n 0 k
   settled_leaves c s k (Renew range server until) = λ free. (renew_settles c.map s range server until (range_at c.map.ranges range) refl).extends.assigned n 0 k

@@ -228,13 +228,13 @@ module _ (asks : List Packet) (one : AskOneKey asks) (m : MapState) (s : IsSound
   called_pairs p q (Some refusal) o taken = record { extends = same_map; packets = (tt, tt) }
   called_pairs p q None o taken = taken refl
 
-  assign_pairs : (n server until : ℕ) (o : Option RangeEntry) → Pairing (assign_rule m n server until o)
+  pub assign_pairs : (n server until : ℕ) (o : Option RangeEntry) → Pairing (assign_rule m n server until o)
   assign_pairs n server until None = silent_pairs
   assign_pairs n server until (Some x) =
       if_elim Pairing (nat_lt (suc x.generation) (2 ^ 64)) _ _
       (λ t. record { extends = extends (assign m n server until) (λ q range g key low high a k. assign_pending range g key low high m n server until k); packets = (tt, tt) }) (λ f. silent_pairs)
 
-  renew_pairs : (n server until : ℕ) (o : Option RangeEntry) → Pairing (renew_rule m n server until o)
+  pub renew_pairs : (n server until : ℕ) (o : Option RangeEntry) → Pairing (renew_rule m n server until o)
   renew_pairs n server until None = silent_pairs
   renew_pairs n server until (Some x) = record {
     extends = extends (with_range m n (renewed until)) (λ q range g key low high a k. renew_pending range g key low high m n until k);
@@ -333,7 +333,7 @@ module _ (asks : List Packet) (one : AskOneKey asks) (m : MapState) (s : IsSound
   asking p (maps.CompleteMerge left b right g q) is (inr names) = (subst (BodyNames (K m)) is names).0
   asking p body is names = tt
 
-  rule_pairs : (p : Packet) (body : Body) → p.body ≡ body → PacketNames (K m) p → Pairing (map_rule m p body)
+  pub rule_pairs : (p : Packet) (body : Body) → p.body ≡ body → PacketNames (K m) p → Pairing (map_rule m p body)
   rule_pairs p (bodies.Map body) is names = told_pairs p body (asking p body is names)
   rule_pairs p body is names = silent_pairs
 

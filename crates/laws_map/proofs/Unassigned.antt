@@ -68,7 +68,7 @@ module _ (n : ℕ) where
       step : (r : RangeEntry) → Free r → Free (changed_if range (with_pending pending) r)
       step r f = if_elim Free (r.range == range) (with_pending pending r) r (λ t. none) (λ u. f)
 
-  split_in_settled : (range : ℕ) (rs : List RangeEntry) → Each Free rs → Each Free (split_in rs range)
+  pub split_in_settled : (range : ℕ) (rs : List RangeEntry) → Each Free rs → Each Free (split_in rs range)
   split_in_settled range [] k = tt
   split_in_settled range (r ∷ rs) k = if_elim (Each Free) (r.range == range) (halves r r.pending ++ rs) (r ∷ split_in rs range) (λ t. by_pending r.pending) (λ f. (k.0, split_in_settled range rs k.1))
     where
@@ -119,7 +119,7 @@ module _ (m : MapState) (s : IsSound m) where
   same_map = extends m (λ n k. k)
 
   -- an entry's own number is settled
-  found_settled : (n : ℕ) (x : RangeEntry) → range_at m.ranges n ≡ Some x → IsSettled m n
+  pub found_settled : (n : ℕ) (x : RangeEntry) → range_at m.ranges n ≡ Some x → IsSettled m n
   found_settled n x at = record { given = found_given m s n x at; entries = each_weaker (λ (r : RangeEntry). (r ≡ x) ⊎ HasNot n r) (IsNone n) step m.ranges (entry_only m s n x at) }
     where
       step : (r : RangeEntry) → (r ≡ x) ⊎ HasNot n r → IsNone n r

@@ -5,3 +5,5 @@ pub mod Pairs
 pub mod Assigned
 pub mod Openings
 pub mod NewNumbers
+pub mod GivenPairs
+pub mod Stages

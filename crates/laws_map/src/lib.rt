@@ -10,5 +10,6 @@
 //! - `run_is_settled`, `run_never_assigns`: a range that is only to come is not assigned, and where it is dropped it never is.
 //! - `run_takes_first`: no split gives the number of the first range to one of its two.
 //! - `run_asks_one_key`: all who ask to split a range under one generation ask for one key.
+//! - `run_gives_once`: each number that the map gave to a split is of one pair, and its range is assigned only where the split was to end.
 //! - `run_is_paired`: the two numbers that a split was told are those that are pending at its range, while that keeps its generation.
 #![tactic(auto)]

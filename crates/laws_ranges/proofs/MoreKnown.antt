@@ -13,7 +13,7 @@ use Rattle.model_partition.specs.Range.{RangeState}
 use Rattle.replica.specs.Groups.{Group}
 use Rattle.model_histories.specs.Story.{Copy}
 use Rattle.laws_stream_machine.specs.Refinement.{Sent, Tells, IsAt}
-use Rattle.laws_ranges.specs.Serves.{Stand, Side, Wider, known, IsTold, ServesBy, FoundIs, Readable, WasSealed, WasFound, WasShut, LoadsBy, LoadingIs, OpeningIs, ConfirmingIs, LoadOf, OfSealed, OfStood, ServingIs, UnreadIs, metadata_of, log_of, LoadsMetadata, LoadsLog, StageIs, Follows, rows_of, IsAside, RowsJob}
+use Rattle.laws_ranges.specs.Serves.{Stand, Side, Wider, known, IsTold, ServesBy, FoundIs, Readable, WasSealed, WasFound, WasShut, LoadsBy, LoadingIs, OpeningIs, ConfirmingIs, LoadOf, OfSealed, OfStood, ServingIs, UnreadIs, metadata_of, log_of, LoadsMetadata, LoadsLog, StageIs, Follows, rows_of, IsAside, RowsJob, RowsStand}
 use Rattle.laws_ranges.proofs.MachineSteps.{request_same}
 use Rattle.laws_ranges.proofs.SealedCopies.{first_grown, grown_within}
 
@@ -148,7 +148,7 @@ module _ (generation : ℕ → ℕ) (range : ℕ) (w v : StreamSystem) (i : ℕ)
   }
 
   -- row data is asked as before, where its number is none that others have used for the two streams
-  rows_job_on : ((index e : ℕ) → IsAt w (rows_of range) index e → IsAt v (rows_of range) index e) → (j : Job) → ((q : ReqNo) → awaits j q ≡ true → IsAside n.sent k.sent q) → RowsJob range w m.sent l.sent j → RowsJob range v n.sent k.sent j
+  pub rows_job_on : ((index e : ℕ) → IsAt w (rows_of range) index e → IsAt v (rows_of range) index e) → (j : Job) → ((q : ReqNo) → awaits j q ≡ true → IsAside n.sent k.sent q) → RowsJob range w m.sent l.sent j → RowsJob range v n.sent k.sent j
   rows_job_on more jobs.Idle aside b = tt
   rows_job_on more (jobs.Sent e q) aside b = ((b.0.0, more b.0.0 e b.0.1), aside q (request_same q))
   rows_job_on more (jobs.Closing e q) aside b = ((b.0.0, more b.0.0 e b.0.1), aside q (request_same q))
@@ -157,6 +157,14 @@ module _ (generation : ℕ → ℕ) (range : ℕ) (w v : StreamSystem) (i : ℕ)
   rows_job_on more (jobs.Shutting e q) aside b = b
   rows_job_on more (jobs.Reading e places upto sealed place q) aside b = b
 
+  pub rows_on : ((index e : ℕ) → IsAt w (rows_of range) index e → IsAt v (rows_of range) index e) → (c : ClientState) → ((q : ReqNo) → awaits c.job q ≡ true → IsAside n.sent k.sent q) →
+      RowsStand range w m.sent l.sent c → RowsStand range v n.sent k.sent c
+  rows_on more c aside b = record {
+    stream = b.stream;
+    listed = λ x here. (let at = b.listed x here in (at.0, more at.0 x.extent at.1));
+    job = rows_job_on more c.job aside b.job;
+  }
+
   -- whatever others do, the range is where it was
   pub follows_on : ((index e : ℕ) → IsAt w (rows_of range) index e → IsAt v (rows_of range) index e) → (r : RangeState) → ((q : ReqNo) → awaits r.rows.job q ≡ true → IsAside n.sent k.sent q) →
       Follows generation range w i m l r → Follows generation range v i n k r
@@ -164,10 +172,6 @@ module _ (generation : ℕ → ℕ) (range : ℕ) (w v : StreamSystem) (i : ℕ)
     range_is = b.range_is;
     under = b.under;
     calm = b.calm;
-    rows = record {
-      stream = b.rows.stream;
-      listed = λ x here. (let at = b.rows.listed x here in (at.0, more at.0 x.extent at.1));
-      job = rows_job_on more r.rows.job aside b.rows.job;
-    };
+    rows = rows_on more r.rows aside b.rows;
     stage = stage_on r r.stage b.stage;
   }

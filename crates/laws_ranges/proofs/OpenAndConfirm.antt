@@ -42,7 +42,7 @@ module _ (generation : ℕ → ℕ) (name : StreamName) (w : StreamSystem) (i : 
   -- ---- all is read
 
   -- where the last extent that the client knows is sealed, all that it knows are
-  all_shut : (c : ClientState) → IsTold generation name w i x sent c → (o : Option StreamExtent) → last_extent c.extents ≡ o → is_live o ≡ false → known c ≤ length x.state.core.shut
+  pub all_shut : (c : ClientState) → IsTold generation name w i x sent c → (o : Option StreamExtent) → last_extent c.extents ≡ o → is_live o ≡ false → known c ≤ length x.state.core.shut
   all_shut c told None e live =
       let none : length c.extents ≡ 0 = none_last c.extents e in
       let first = told.tells.ends none in

@@ -39,7 +39,7 @@ got {A} (y ∷ ys) zero x e = let s : y ≡ x = cc in (0, omega arith, s)
 got {A} (y ∷ ys) (suc k) x e = let m = got ys k x e in (suc m.0, omega (arith, m.1), m.2)
 
 -- what stands in a list after a place is set
-set_holds : {A : Type 0} (xs : List A) (k : ℕ) (y z : A) → Contains (slice_set xs k y) z → (y ≡ z) ⊎ Contains xs z
+pub set_holds : {A : Type 0} (xs : List A) (k : ℕ) (y z : A) → Contains (slice_set xs k y) z → (y ≡ z) ⊎ Contains xs z
 set_holds {A} [] k y z c = inr c
 set_holds {A} (x ∷ xs) zero y z (zero, lt, e) = inl e
 set_holds {A} (x ∷ xs) zero y z (suc j, lt, e) = inr (suc j, omega (arith, lt), e)
@@ -48,7 +48,7 @@ set_holds {A} (x ∷ xs) (suc k) y z (suc j, lt, e) =
     ⊎_elim {C = (y ≡ z) ⊎ Contains (x ∷ xs) z} (λ s. inl s) (λ m. inr (suc m.0, omega (arith, m.1), m.2)) (set_holds xs k y z (j, omega (arith, lt), e))
 
 -- each extent whose last one is sealed is one of the list before
-sealed_holds : (P : ℕ → Type 0) (xs : List StreamExtent) (l : ℕ) → ((x : StreamExtent) → Contains xs x → P x.extent) → (x : StreamExtent) → Contains (sealed_last xs l) x → P x.extent
+pub sealed_holds : (P : ℕ → Type 0) (xs : List StreamExtent) (l : ℕ) → ((x : StreamExtent) → Contains xs x → P x.extent) → (x : StreamExtent) → Contains (sealed_last xs l) x → P x.extent
 sealed_holds P xs l all = go (last_extent xs) refl
   where
     go : (o : Option StreamExtent) → last_extent xs ≡ o → (x : StreamExtent) → Contains (sealed_last_if xs l o) x → P x.extent

@@ -135,7 +135,7 @@ module _ (generation : ℕ → ℕ) (range : ℕ) (w : StreamSystem) (i : ℕ) (
   own_builds name sent body b = tt
 
   -- what says nothing of any stream builds none
-  plain_builds : (p : Packet) → IsPlain generation range w i p → BuildsNone p.body
+  pub plain_builds : (p : Packet) → IsPlain generation range w i p → BuildsNone p.body
   plain_builds p plain = go p.body (λ name. plain bare name (machine.nothing Group generation) [])
     where
       -- where there is no stream
@@ -150,7 +150,7 @@ module _ (generation : ℕ → ℕ) (range : ℕ) (w : StreamSystem) (i : ℕ) (
   abbrev Marked : ReqNo → Purpose → List Sent
   Marked q p = record { request = q; purpose = p } ∷ []
 
-  plain_unasked : (p : Packet) → IsPlain generation range w i p → (q : ReqNo) → asked_number p.body ≡ Some q → ⊥
+  pub plain_unasked : (p : Packet) → IsPlain generation range w i p → (q : ReqNo) → asked_number p.body ≡ Some q → ⊥
   plain_unasked p plain q is = go p.body refl is
     where
       s : machine.MachineState Group

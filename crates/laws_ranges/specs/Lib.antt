@@ -2,3 +2,5 @@ pub mod Serves
 pub mod Quiet
 pub mod Seen
 pub mod Records
+pub mod SplitJobs
+pub mod SplitSides

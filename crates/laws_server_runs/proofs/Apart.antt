@@ -159,7 +159,7 @@ module _ (k : ℕ) where
   -- a step of a range that may be split
   step_apart : (r : RangeState) (job : Option SplitJob) (actions : List StreamAction) (o : RangeOutcome) (later : Option SplitJob) → IsStep IsOther r job actions o later → ApartIf job → ApartIf later
   step_apart r job actions o later (Alone own_actions own rule) was = tt
-  step_apart r job actions o later (BeginsSplit d key may none) was = tt
+  step_apart r job actions o later (BeginsSplit d key may none splits) was = tt
   step_apart r job actions o later (Drops split own_actions own rule calm gone) was = tt
   step_apart r job actions o later (Follows split own_actions own rule calm room d counts next left) was = follows_apart d next split was
   step_apart r job actions o later (Leaves split c d next left) was = gives_up_apart d next split was
@@ -167,9 +167,9 @@ module _ (k : ℕ) where
   step_apart r job actions o later (Hears split d body numbered) was = reply_apart d r split was split.phase was body numbered
 
   effect_apart : (range : ℕ) (r : RangeState) (job : Option SplitJob) (e : RangeEffect) (o : RangeOutcome) (later : Option SplitJob) → IsEffect IsOther range r job e o later → ApartIf job → ApartIf later
-  effect_apart range r job e o later (Own own actions after left_job step) was = step_apart r job actions o later step was
-  effect_apart range r job e o later (None_done own after left_job step) was = step_apart r job [] o later step was
-  effect_apart range r job e o later (OfOthers split d body after left_job step) was = step_apart r (Some split) [] o later step was
+  effect_apart range r job e o later (Own own actions after left_job step unheard) was = step_apart r job actions o later step was
+  effect_apart range r job e o later (None_done own after left_job step unheard) was = step_apart r job [] o later step was
+  effect_apart range r job e o later (OfOthers split d body after left_job step heard) was = step_apart r (Some split) [] o later step was
 
   -- ---- all servers
 

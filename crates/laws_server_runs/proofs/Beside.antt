@@ -14,7 +14,7 @@ use Rattle.model_histories.specs.ServerRun.{ServerRun, first_history, stream_nam
 use Rattle.model_histories.specs.ServedTables.{AreSeenAs, ServesAt}
 use Rattle.laws_loads.specs.RangeView.{Free}
 use Rattle.laws_server_runs.specs.RangeInvariant.{RangeKept, AreObserved, Rests}
-use Rattle.laws_server_runs.specs.RunInvariant.{view_at, with_stage, SplitKept, HeldKept, Taken, RunBehind}
+use Rattle.laws_server_runs.specs.RunInvariant.{view_at, with_stage, SplitKept, HeldKept, Taken, RunBehind, RunOn}
 use Rattle.laws_server_runs.proofs.Loads.{new_kept}
 use Rattle.laws_server_runs.proofs.Others.{streams_same, others_kept}
 
@@ -70,6 +70,15 @@ module _ (texts : ℕ → Bytes) (subject : ℕ) (taken : Taken) (x : ServerRun)
       behind = kept.behind;
       ranges = λ t c q there up r held. is_kept t q r (b.holds t c q there up r held);
       own = λ s t r u one two same. kept.own s t r u (served_before s r one) (served_before t u two) same;
+      loaded = λ t r serves. kept.loaded t r (served_before t r serves);
       streams = streams_same texts kept.run (view_at subject x 0) (view_at subject y 0) (b.story kinds.Log) (b.story kinds.Metadata) kept.streams;
       seen = λ notes seen. let n = b.notes notes seen in subst (λ l. AreObserved texts subject kept.run (taken.notes ++ l)) (sym n.2) (kept.seen n.0 n.1);
     }
+
+    -- its run does not go on
+    pub beside_run : beside_kept.run ≡ kept.run
+    unfolding beside_kept
+    beside_run = refl
+
+    pub beside_on : RunOn texts subject taken x kept y
+    beside_on = record { kept = beside_kept; goes = ([], beside_run) }

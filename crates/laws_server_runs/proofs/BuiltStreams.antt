@@ -1,41 +1,35 @@
 -- Streams that are built of another range's: they leave what is kept of other ranges, and the range that they are built for begins with
 -- what its source has done and shown.
-use Rattle.std.proofs.Common.{◌≡◌, ℕ, List, [], ◌++◌, Some, None, refl, sym, ap, ◌∙◌, inl, append-nil, if◌then◌else◌}
-use Rattle.wire.specs.declared.note.Note.{Note}
+use Rattle.std.proofs.Common.{◌≡◌, ℕ, [], ◌++◌, Some, None, refl, sym, ap, ◌∙◌, inl, append-nil, if◌then◌else◌}
 use Rattle.wire.specs.declared.streams.StreamKind.{StreamKind}
 use Rattle.wire.specs.declared.streams.StreamKind.TheVariants as kinds
-use Rattle.model_streams.specs.Maps.{entry_at}
 use Rattle.model_histories.specs.Log.{only}
-use Rattle.model_histories.specs.ServedTables.{AreSeenAs, ServesAt}
+use Rattle.model_histories.specs.ServedTables.{ServesAt}
 use Rattle.model_histories.specs.ServerRun.{ServerRun, built_streams, own_or, stream_named}
 use Rattle.model_partition.specs.Past.{Bytes}
 use Rattle.model_partition.specs.Range.{RangeState}
-use Rattle.model_partition.specs.Server.{ServerState, range_of}
-use Rattle.model_partition.specs.Servers.{ServerCell}
 use Rattle.laws_tables.specs.Runs.{first_beginning, seen}
+use Rattle.laws_server_runs.specs.ChildInvariant.{IsUntouched}
 use Rattle.laws_server_runs.specs.RangeInvariant.{AreObserved}
 use Rattle.laws_server_runs.specs.RunInvariant.{view_at, Taken, RunBehind}
 use Rattle.laws_server_runs.proofs.Actions.{same_test, other_test}
-use Rattle.laws_server_runs.proofs.Beside.{beside_kept}
+use Rattle.laws_server_runs.proofs.Beside.{IsBeside, beside_kept}
 use Rattle.laws_server_runs.proofs.Others.{streams_same}
 use Rattle.laws_server_runs.proofs.SeenTables.{seen_as, all_seen}
 
+-- they do nothing with those of other ranges
+pub build_beside : (texts : ℕ → Bytes) (subject : ℕ) (taken : Taken) (x : ServerRun) (kept : RunBehind texts subject taken x) (source range : ℕ) → (range ≡ subject → ⊥) → IsBeside texts subject taken x kept (built_streams source range x)
+build_beside texts subject taken x kept source range other = record {
+  holds = λ t c q there up r held. inl (c, q, there, up, held, refl, refl);
+  story = λ kind.
+      ap (λ b. if b then own_or (x.story (stream_named subject kind)) (x.story (stream_named source kind)) else x.story (stream_named subject kind)) (other_test subject range (λ e. other (sym e)));
+  answered = ap (λ b. if b then own_or (x.answered range) (x.answered source) else x.answered subject) (other_test subject range (λ e. other (sym e)));
+  notes = λ notes seen. (notes, seen, refl);
+}
+
 -- those of other ranges
 pub built_beside : (texts : ℕ → Bytes) (subject : ℕ) (taken : Taken) (x : ServerRun) → RunBehind texts subject taken x → (source range : ℕ) → (range ≡ subject → ⊥) → RunBehind texts subject taken (built_streams source range x)
-built_beside texts subject taken x kept source range other =
-    beside_kept texts subject taken x kept (built_streams source range x) (record {
-      holds = λ t c q there up r held. inl (c, q, there, up, held, refl, refl);
-      story = λ kind.
-          ap (λ b. if b then own_or (x.story (stream_named subject kind)) (x.story (stream_named source kind)) else x.story (stream_named subject kind)) (other_test subject range (λ e. other (sym e)));
-      answered = ap (λ b. if b then own_or (x.answered range) (x.answered source) else x.answered subject) (other_test subject range (λ e. other (sym e)));
-      notes = λ notes seen. (notes, seen, refl);
-    })
-
--- nothing was done with the streams of a range, no server holds it, and nothing is told of it
-pub record IsUntouched (texts : ℕ → Bytes) (range : ℕ) (x : ServerRun) : Type 0 where
-  pub story : (kind : StreamKind) → x.story (stream_named range kind) ≡ []
-  pub held : (s : ℕ) (cell : ServerCell) (st : ServerState) → entry_at x.servers s ≡ Some cell → cell.state ≡ Some st → range_of st.ranges range ≡ None
-  pub untold : (notes : List Note) → AreSeenAs texts x.notes notes → only range notes ≡ []
+built_beside texts subject taken x kept source range other = beside_kept texts subject taken x kept (built_streams source range x) (build_beside texts subject taken x kept source range other)
 
 module _ (texts : ℕ → Bytes) (source range : ℕ) (taken : Taken) (x : ServerRun) (kept : RunBehind texts source taken x) where
   abbrev y : ServerRun
@@ -65,6 +59,7 @@ module _ (texts : ℕ → Bytes) (source range : ℕ) (taken : Taken) (x : Serve
       behind = ([], refl);
       ranges = λ s cell st at up r held. absurd (let z : None ≡ Some r = sym (new.held s cell st at up) ∙ held in cc);
       own = λ s t r u one two e. absurd (none_serves s r one);
+      loaded = λ s r serves. absurd (none_serves s r serves);
       streams = streams_same texts kept.run (view_at source x 0) (view_at range y 0) (story_is kinds.Log) (story_is kinds.Metadata) kept.streams;
       seen = λ notes told. (
         source_seen.0,
@@ -72,3 +67,8 @@ module _ (texts : ℕ → Bytes) (source range : ℕ) (taken : Taken) (x : Serve
         ap (λ l. seen first_beginning source_seen.0 range kept.run ++ l) (new.untold notes told) ∙ append-nil (seen first_beginning source_seen.0 range kept.run),
       );
     }
+
+    -- it has not gone on yet
+    pub built_run : built_kept.run ≡ kept.run
+    unfolding built_kept
+    built_run = refl

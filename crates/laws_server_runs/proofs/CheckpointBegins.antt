@@ -1,9 +1,10 @@
 -- A checkpoint begins at a range that is served: what it notes, and where it is a plain one, what is appended to row data first.
-use Rattle.std.proofs.Common.{◌≡◌, ℕ, Bool, [], ◌∷◌, Option, Some, None, refl, sym, ap, subst, inr, ◌∙◌}
+use Rattle.std.proofs.Common.{◌≡◌, ℕ, Bool, true, [], ◌∷◌, Option, Some, None, refl, sym, ap, subst, inr, ◌∙◌}
 use Rattle.std.specs.List.{AllByRecursion}
 use Rattle.wire.specs.declared.streams.StreamKind.TheVariants as kinds
 use Rattle.client.specs.Client.{ClientState, append_rule}
 use Rattle.memtable.specs.Entries.{Entries, IsFit}
+use Rattle.metadata.specs.Keys.{within}
 use Rattle.metadata.specs.Record.{IsNext, IsPosition}
 use Rattle.checkpoint_format.specs.Page.{IsPageEntry}
 use Rattle.checkpoint.specs.Contents.{AreEntries}
@@ -47,7 +48,7 @@ module _ (texts : ℕ → Bytes) where
     pub position : place_number r.position ≡ s.position
     pub next : r.next ≡ s.next
     pub out : s.out ≡ append_of (v.history.append kinds.Log) r.out
-    pub live : AllStand texts v.answered → (key : Bytes) → layer_in texts r.live key ≡ s.live key
+    pub live : AllStand texts v.answered → (key : Bytes) → within r.said.keys key ≡ true → layer_in texts r.live key ≡ s.live key
     pub said : r.said ≡ said first_beginning s.records
     pub installed : AreInstalled texts r.indexes r.said.indexes
     pub ordered : Ordered r.live
@@ -161,7 +162,7 @@ module _ (texts : ℕ → Bytes) where
     metadata_idle = subst (MetadataBeside r.metadata.job) free (subst (AppendsMetadata r.metadata.job v.split) none m.metadata)
 
     pub beside_now : MatchesBeside v (noting s) (with_fixed r)
-    beside_now = record { position = m.position; next = m.next; out = m.out; live = λ all key. refl; said = m.said; installed = m.installed; ordered = tt; named = m.named; free = free; idle = metadata_idle }
+    beside_now = record { position = m.position; next = m.next; out = m.out; live = λ all key there. refl; said = m.said; installed = m.installed; ordered = tt; named = m.named; free = free; idle = metadata_idle }
 
     pub idle_now : r.rows.job ≡ jobs.Idle
     idle_now = subst (AppendsRows r.rows) none m.rows

@@ -93,18 +93,17 @@ module _ (texts : ℕ → Bytes) where
       said = ap (λ z. taken z (item_of job index)) m.said ∙ sym (said_with first_beginning s.records (item_of job index)) ∙ ap (said first_beginning) (sym records_now);
       installed = recorded_installed texts r job entries index (h.written stand) m.installed;
       ordered = m.ordered;
-      named = one_more_named (IsOfPages texts) r.said (item_of job index) (
-        inl (record {
-          combine = job.combine;
-          index = index;
-          position = job.position;
-          next = job.next;
-          is = refl;
-          fits = h.writes.noted.position;
-          holds = (job.pages.index, entries, h.written stand, h.filed stand);
-        }),
-        tt,
-      ) m.named;
+      named = one_more_named (IsOfPages texts) r.said (item_of job index)
+          (inl (record {
+            combine = job.combine;
+            index = index;
+            position = job.position;
+            next = job.next;
+            is = refl;
+            fits = h.writes.noted.position;
+            holds = (job.pages.index, entries, h.written stand, h.filed stand);
+          }))
+          tt m.named;
       rows = subst (AppendsPhase r.rows next) (sym waits) idle;
       reads = nothing_next texts r.reading next merged;
       beside = free_beside v.split free _ None (Some next) _;

@@ -192,7 +192,7 @@ module _ (texts : ℕ → Bytes) (subject : ℕ) where
                 matches = subst (λ z. Matches texts (view_after g v (Forms kinds.Metadata (record_group r job place))) z (record r { metadata = c; control = Some (with_phase job (checkpoints.Record place)) }))
                     (sym (same_here g _ _)) (records_match texts v s r m d job there h e offset known low stands may (length (chains.meta_of run)) counted c idle);
                 streams = recording_streams texts run v streams g r.said.next (item_of job place) (record_group r job place) spells
-                    (inl (record { number = r.said.next; combine = job.combine; index = place; position = job.position; next = job.next; spells = spells; fits = h.0.noted.position; holds = index_holds job there h e offset known low stands may })) (λ keys is. absurd cc)
+                    (inl (record { number = r.said.next; combine = job.combine; index = place; position = job.position; next = job.next; spells = spells; fits = h.0.noted.position; holds = index_holds job there h e offset known low stands may }))
                     (may_append texts v s r m d job there h e offset known low stands may run refl serving all);
                 longer = ([], refl);
                 seen = λ notes old. old;

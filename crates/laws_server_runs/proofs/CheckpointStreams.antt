@@ -3,9 +3,7 @@ use Rattle.std.proofs.Common.{◌≡◌, ⊎_elim, ℕ, ◌+◌, ◌∷◌, sym,
 use Rattle.block_types.specs.Limits.{group_size}
 use Rattle.wire.specs.declared.streams.StreamKind.TheVariants as kinds
 use Rattle.streams.specs.declared.table.Position.{Position}
-use Rattle.metadata.specs.declared.record.KeyRange.{KeyRange}
 use Rattle.metadata.specs.declared.record.MetaItem.{MetaItem}
-use Rattle.metadata.specs.declared.record.MetaItem.TheVariants.{Ranges}
 use Rattle.commitlog.specs.Replay.{Numbered}
 use Rattle.model_partition.specs.Loading.{Group}
 use Rattle.model_partition.specs.Past.{Bytes}
@@ -27,7 +25,6 @@ module _ (texts : ℕ → Bytes) (run : Run) (v : RangeView) (streams : StreamsK
     log = streams.log;
     metadata = streams.metadata;
     chain = (may, streams.chain);
-    keys = streams.keys;
     spelled = streams.spelled;
     records = streams.records;
   }
@@ -37,19 +34,17 @@ module _ (texts : ℕ → Bytes) (run : Run) (v : RangeView) (streams : StreamsK
     log = streams.log;
     metadata = streams.metadata;
     chain = (may, streams.chain);
-    keys = streams.keys;
     spelled = streams.spelled;
     records = streams.records;
   }
 
   -- a record's append begins
-  pub recording_streams : (number : ℕ) (item : MetaItem) (group : Group) → decoded_record group ≡ chains.record_group number item → IsRecord (IsOfPages texts) group → ((keys : KeyRange) → item ≡ Ranges keys → ⊥) →
+  pub recording_streams : (number : ℕ) (item : MetaItem) (group : Group) → decoded_record group ≡ chains.record_group number item → IsRecord (IsOfPages texts) group →
       MayInChain (layer_at texts) first_beginning run (chains.Records g number item) → StreamsKept texts (chains.Records g number item ∷ run) (view_after g v (Forms kinds.Metadata group))
-  recording_streams number item group spells is other may = record {
+  recording_streams number item group spells is may = record {
     log = streams.log;
     metadata = (λ i. Made g (sym spells i) ∷ streams.metadata i);
     chain = (may, streams.chain);
-    keys = (other, streams.keys);
     spelled = streams.spelled;
     records = λ a h one at.
         ⊎_elim {C = IsRecord (IsOfPages texts) one}
@@ -69,7 +64,6 @@ module _ (texts : ℕ → Bytes) (run : Run) (v : RangeView) (streams : StreamsK
     log = streams.log;
     metadata = ap (λ l. told_named ∷ l) streams.metadata;
     chain = (may, streams.chain);
-    keys = streams.keys;
     spelled = streams.spelled;
     records = λ a h one there.
         ⊎_elim {C = IsRecord (IsOfPages texts) one} (λ new. (let z : told ≡ Made h one = new.1 in absurd cc)) (λ old. streams.records a h one old)

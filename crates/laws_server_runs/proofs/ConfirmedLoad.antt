@@ -9,7 +9,7 @@ use Rattle.wire.specs.declared.streams.StreamKind.TheVariants as kinds
 use Rattle.client.specs.Client.{last_extent}
 use Rattle.metadata.specs.declared.record.MetaItem.{MetaItem}
 use Rattle.metadata.specs.declared.record.Region.{Region}
-use Rattle.metadata.specs.Fold.{MetadataState, first_metadata, all_keys}
+use Rattle.metadata.specs.Fold.{MetadataState, first_metadata}
 use Rattle.metadata.specs.Keys.{within}
 use Rattle.commitlog.specs.declared.log_record.LogRecord.{LogRecord}
 use Rattle.commitlog.specs.Replay.{Numbered}
@@ -19,14 +19,15 @@ use Rattle.model_partition.specs.Loading.{Group, open_region, log_end}
 use Rattle.model_histories.specs.Log.{line_shown}
 use Rattle.model_partition.specs.Past.{Bytes, Transaction}
 use Rattle.model_histories.specs.Renaming.{renamed_placed, renamed_event, decoded, decoded_record}
-use Rattle.model_histories.specs.Story.{Placed, StreamEvent, Showed, event_at}
+use Rattle.model_histories.specs.Story.{Placed, StreamEvent, Showed, Story, event_at, KeepsOrder}
 use Rattle.model_histories.specs.StreamActions.{ExtentRead, StreamAction, Shows, first_start, read_end}
 use Rattle.model_histories.specs.ServerRun.{place_number, placed_reads, placed_behind, bytes_read}
-use Rattle.laws_loads.proofs.Renaming.{showed_from}
+use Rattle.laws_loads.proofs.Renaming.{renamed_keeps, showed_from}
 use Rattle.laws_tables.proofs.Range.{newest, bound, older}
-use Rattle.laws_tables.proofs.Layers.{in_all}
 use Rattle.laws_tables.proofs.Loads.{greater_left}
+use Rattle.laws_tables.proofs.NarrowKeys.{RecordsKept, records_kept, narrow_shown}
 use Rattle.laws_tables.specs.Layers.{Layer, empty_layer, over, indexed, layer_line}
+use Rattle.laws_tables.specs.NarrowKeys.{AllNarrow}
 use Rattle.laws_tables.specs.Runs as chains
 use Rattle.laws_tables.specs.Runs.{Run, first_beginning, first_next, start_number, added, greater, said, replayed_by, next_loaded, loaded_layer, IsServing, MayStart}
 use Rattle.laws_loads.specs.MemoryLayers.{layer_in}
@@ -38,8 +39,8 @@ use Rattle.laws_server_runs.proofs.Folding.{IsFoldOf, groups_folded}
 use Rattle.laws_server_runs.proofs.LoadedLine.{line_read, reads_groups, groups_renamed, first_stand, extents_replayed, the_region}
 use Rattle.laws_server_runs.proofs.OneRegion.{IsOneRegion, AllKeepOneRegion, all_kept, first_one}
 use Rattle.laws_server_runs.specs.NamedIndexes.{NamesSuch}
-use Rattle.laws_server_runs.proofs.NamedIndexes.{named_by_load}
-use Rattle.laws_server_runs.proofs.LoadedRecords.{AreOfCheckpoints, shown_of_checkpoints, checkpoints_keep, keys_stay}
+use Rattle.laws_server_runs.proofs.NamedIndexes.{named_by_load, such_by_load}
+use Rattle.laws_server_runs.proofs.LoadedRecords.{IsOfRecord, AreOfRecords, made_of_records, shown_of, regions_kept}
 use Rattle.laws_server_runs.proofs.Order.{shown_spelled, shown_behind, made_before}
 use Rattle.laws_server_runs.proofs.Replaying.{AreRead, After}
 
@@ -204,28 +205,32 @@ module _ (texts : ℕ → Bytes) (run : Run) (v : RangeView) (r : RangeState) (h
       streams.records a g group
       (made_before (metadata_of v) r.load.generation 0 (place_number (metadata_end r)) (placed_reads (v.history.reads kinds.Metadata)) a g group at)
 
-  -- those that the load shows are of checkpoints
-  all_checkpoints : AreOfCheckpoints (IsOfPages texts) (line_shown (shown_records v r))
-  all_checkpoints =
-      shown_of_checkpoints (IsOfPages texts) (metadata_load v r ∷ metadata_of v) order.metadata records_still (length (metadata_of v)) r.load.generation 0 (place_number (metadata_end r))
-      (placed_reads (v.history.reads kinds.Metadata)) (newest Group (metadata_load v r) (metadata_of v))
+  -- those that the load shows are of such records
+  all_records : AreOfRecords (IsOfPages texts) (line_shown (shown_records v r))
+  all_records =
+      shown_of (IsOfRecord (IsOfPages texts)) (metadata_load v r ∷ metadata_of v) order.metadata (made_of_records (IsOfPages texts) (metadata_load v r ∷ metadata_of v) records_still) (length (metadata_of v)) r.load.generation 0
+      (place_number (metadata_end r)) (placed_reads (v.history.reads kinds.Metadata)) (newest Group (metadata_load v r) (metadata_of v))
 
-  -- so they leave one region, and all keys
+  -- and give the range no keys that it had not
+  all_narrow : AllNarrow first_metadata (line_shown (shown_records v r))
+  all_narrow =
+      let shown : StreamEvent (Numbered MetaItem) = Showed r.load.generation 0 (place_number (metadata_end r)) (shown_records v r) in
+      let ordered : KeepsOrder (shown ∷ chains.meta_of run) =
+      subst (λ (story : Story (Numbered MetaItem)). KeepsOrder (shown ∷ story)) (sym streams.metadata) (renamed_keeps decoded_record (metadata_load v r ∷ metadata_of v) order.metadata) in
+      let kept : RecordsKept first_beginning (run_loaded run v r) = records_kept first_beginning (layer_at texts) (run_loaded run v r) ((first_load, may_start), streams.chain) ordered in
+      narrow_shown first_beginning (shown ∷ chains.meta_of run) kept.served ordered kept.fit (length (chains.meta_of run)) r.load.generation 0 (place_number (metadata_end r)) (shown_records v r)
+      (newest (Numbered MetaItem) shown (chains.meta_of run))
+
+  -- so they leave one region
   pub records_keep : AllKeepOneRegion first_metadata (line_shown (shown_records v r))
-  records_keep = checkpoints_keep (IsOfPages texts) (line_shown (shown_records v r)) first_metadata all_checkpoints
+  records_keep = regions_kept (IsOfPages texts) (line_shown (shown_records v r)) first_metadata all_records all_narrow
 
-  pub keys_are : r.said.keys ≡ all_keys
-  keys_are = ap (λ (m : MetadataState). m.keys) said_is ∙ keys_stay (IsOfPages texts) (line_shown (shown_records v r)) first_metadata all_checkpoints
-
-  -- and the indexes that they name were written, each of its pages
+  -- and the indexes that they name were written, each of its pages, and count for all of its keys
   pub named_are : NamesSuch (IsOfPages texts) r.said
   named_are =
-      named_by_load (IsOfPages texts) (metadata_load v r ∷ metadata_of v) order.metadata records_still (length (metadata_of v)) r.load.generation 0 (place_number (metadata_end r))
-      (placed_reads (v.history.reads kinds.Metadata)) (newest Group (metadata_load v r) (metadata_of v)) r.said said_is
-
-  -- and the layer is that of all keys
-  pub whole_layer : (key : Bytes) → layer_in texts r.live key ≡ layer_line (replayed_by first_beginning (spelled_groups v r) (shown_records v r)) empty_layer key
-  whole_layer key = layer_is records_keep key (ap (λ keys. within keys key) keys_are ∙ in_all key)
+      such_by_load (IsOfPages texts) (line_shown (shown_records v r)) all_narrow r.said said_is
+      (named_by_load (IsOfPages texts) (metadata_load v r ∷ metadata_of v) order.metadata records_still (length (metadata_of v)) r.load.generation 0 (place_number (metadata_end r))
+      (placed_reads (v.history.reads kinds.Metadata)) (newest Group (metadata_load v r) (metadata_of v)) r.said said_is)
 
   -- servers may load it now
   pub streams_loaded : StreamsKept texts (run_loaded run v r) (view_shown v r)
@@ -233,7 +238,6 @@ module _ (texts : ℕ → Bytes) (run : Run) (v : RangeView) (r : RangeState) (h
     log = ap (λ l. renamed_event decoded (log_load v r) ∷ l) streams.log;
     metadata = ap (λ l. renamed_event decoded_record (metadata_load v r) ∷ l) streams.metadata;
     chain = ((first_load, may_start), streams.chain);
-    keys = streams.keys;
     spelled = spelled_still;
     records = records_still;
   }

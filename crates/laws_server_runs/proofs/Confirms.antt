@@ -22,6 +22,7 @@ use Rattle.client.specs.Client.{last_extent}
 use Rattle.client.specs.Load.{load_awaits}
 use Rattle.metadata.specs.declared.record.Region.{Region}
 use Rattle.metadata.specs.Fold.{first_metadata}
+use Rattle.metadata.specs.Keys.{within}
 use Rattle.commitlog.specs.Replay.{Numbered}
 use Rattle.model_streams.proofs.Tests.{if_elim}
 use Rattle.model_partition.specs.declared.server_context.ServerContext.{ServerContext}
@@ -50,7 +51,7 @@ use Rattle.laws_server_runs.proofs.MetadataJobs.{free_beside, free_none, idle_me
 use Rattle.laws_server_runs.specs.RangeInvariant.{HasReadAll, Matches, Serves, PhaseIs, StageIs, RangeKept, StreamsKept, InOrder, AreObserved, Rests, Adds, StepKept}
 use Rattle.laws_loads.specs.RangeView.{RangeView, Free, view_after_all}
 use Rattle.laws_server_runs.proofs.Behind.{end_fits}
-use Rattle.laws_server_runs.proofs.ConfirmedLoad.{start_of, metadata_end, shows, view_shown, spelled_groups, shown_records, run_loaded, log_stop, named_are, said_is, next_is, position_is, records_keep, whole_layer, first_load, streams_loaded}
+use Rattle.laws_server_runs.proofs.ConfirmedLoad.{start_of, metadata_end, shows, view_shown, spelled_groups, shown_records, run_loaded, log_stop, named_are, said_is, next_is, position_is, records_keep, layer_is, first_load, streams_loaded}
 use Rattle.laws_server_runs.proofs.LoadedRows.{table_load}
 use Rattle.laws_server_runs.proofs.Loads.{calm_kept}
 use Rattle.laws_server_runs.proofs.ObservedLoad.{SaysLoad, load_observed}
@@ -88,8 +89,8 @@ module _ (texts : ℕ → Bytes) (subject : ℕ) (run : Run) (v : RangeView) (r 
     number_is : region.next ≡ next_loaded first_beginning (spelled_groups v r) (shown_records v r)
     number_is = next_is texts run v r h.log streams order keep region is
 
-    layer_now : (key : Bytes) → layer_in texts r.live key ≡ layer_line (replayed_by first_beginning (spelled_groups v r) (shown_records v r)) empty_layer key
-    layer_now = whole_layer texts run v r h.log streams order
+    layer_now : (key : Bytes) → within r.said.keys key ≡ true → layer_in texts r.live key ≡ layer_line (replayed_by first_beginning (spelled_groups v r) (shown_records v r)) empty_layer key
+    layer_now = layer_is texts run v r h.log streams order keep
 
     abbrev end : ℕ
     end = place_number (log_stop r)
@@ -99,7 +100,7 @@ module _ (texts : ℕ → Bytes) (subject : ℕ) (run : Run) (v : RangeView) (r 
       position = position_is texts run v r h.log streams order keep region is (end_fits r.log counted);
       next = number_is;
       out = refl;
-      live = λ stand key. layer_now key;
+      live = λ stand key there. layer_now key there;
       checkpoint = subst (λ control. HoldsCheckpoint texts (parts_of (view_shown v r) (confirmed first_beginning (place_number (start_of r)) end (spelled_groups v r) (shown_records v r)) served) control)
           (sym h.log.none) (record { entries = h.log.fixed; layer = refl; noted = refl; record_out = ap (λ x. out_beside x None) free });
       said = said_is texts run v r h.log streams order;

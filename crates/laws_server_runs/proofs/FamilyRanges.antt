@@ -1,11 +1,11 @@
 -- What is kept of a range at all servers makes it one of a family: its own run behind what its streams were built of, whose streams keep
 -- their order, and of which no more is told than what it shows behind that.
-use Rattle.std.proofs.Common.{◌≡◌, ℕ, suc, ◌+◌, List, [], ◌∷◌, ◌++◌, length, Option, Some, None, refl, sym, ap, ◌∙◌, subst, append_assoc, append-nil, length-append}
+use Rattle.std.proofs.Common.{◌≡◌, ℕ, suc, ◌+◌, List, [], ◌∷◌, ◌++◌, length, map, Option, Some, None, refl, sym, ap, ◌∙◌, subst, append_assoc, append-nil, length-append}
 use Rattle.wire.specs.declared.note.Note.{Note}
 use Rattle.wire.specs.declared.note.Note.TheVariants.{Loaded}
 use Rattle.wire.specs.declared.rows.Row.{Row}
 use Rattle.model_histories.specs.Log.{begins_of, dones_of, dones_at, only}
-use Rattle.model_histories.specs.Renaming.{decoded, decoded_record}
+use Rattle.model_histories.specs.Renaming.{renamed_copy, decoded, decoded_record}
 use Rattle.model_histories.specs.ServedTables.{AreSeenAs, StreamsInOrder}
 use Rattle.model_histories.specs.ServerRun.{ServerRun, log_name, metadata_name}
 use Rattle.model_histories.specs.Story.{StreamEvent, Made, Answered, Showed, event_at, KeepsOrder, EndsRise}
@@ -15,7 +15,7 @@ use Rattle.laws_tables.specs.Families.{IsRange}
 use Rattle.laws_tables.specs.Runs.{Run, Forms, Logged, Notes, Records, Recorded, Trims, Confirms, log_of, meta_of, first_beginning, next_loaded, seen, IsChainRun, ShowsLayers}
 use Rattle.laws_tables.proofs.Ends.{renamed_ends_rise}
 use Rattle.laws_tables.proofs.Points.{fronts}
-use Rattle.laws_loads.proofs.Renaming.{renamed_keeps}
+use Rattle.laws_loads.proofs.Renaming.{renamed_keeps, renamed_copies}
 use Rattle.laws_checkpoints.specs.IndexLayers.{layer_at}
 use Rattle.laws_server_runs.specs.RangeInvariant.{AreObserved}
 use Rattle.laws_server_runs.specs.RunInvariant.{Taken, RunBehind}
@@ -57,7 +57,7 @@ seen_length rows others j k (Confirms g start end groups metadata_end records �
     (Loaded k g (others (length (log_of run))) (next_loaded first_beginning groups records) ∷ []) (seen_length rows others j k run) refl
 
 -- a run shows what its beginning shows, and then more
-more_shown : (rows : ℕ → List Row) (range : ℕ) (own taken : Run) → (more : List Note) × (seen first_beginning rows range (own ++ taken) ≡ seen first_beginning rows range taken ++ more)
+pub more_shown : (rows : ℕ → List Row) (range : ℕ) (own taken : Run) → (more : List Note) × (seen first_beginning rows range (own ++ taken) ≡ seen first_beginning rows range taken ++ more)
 more_shown rows range [] taken = ([], sym (append-nil (seen first_beginning rows range taken)))
 more_shown rows range (Forms g group ∷ own) taken =
     let m : (more : List Note) × (seen first_beginning rows range (own ++ taken) ≡ seen first_beginning rows range taken ++ more) = more_shown rows range own taken in
@@ -90,24 +90,31 @@ module _ (texts : ℕ → Bytes) (range : ℕ) (taken : Taken) (x : ServerRun) (
   abbrev pub own : Run
   own = k.behind.0
 
-  parts : k.run ≡ own ++ taken.run
+  pub parts : k.run ≡ own ++ taken.run
   parts = k.behind.1
 
   -- where the notes that were taken are as many as what was taken shows
   module _ (count : length taken.notes ≡ length (seen first_beginning rows range taken.run)) (order : StreamsInOrder texts range x) where
-    told_behind : seen first_beginning rows range (own ++ taken.run) ≡ seen first_beginning rows range taken.run ++ only range h
+    pub told_behind : seen first_beginning rows range (own ++ taken.run) ≡ seen first_beginning rows range taken.run ++ only range h
     told_behind =
         let m : (more : List Note) × (seen first_beginning rows range (own ++ taken.run) ≡ seen first_beginning rows range taken.run ++ more) = more_shown rows range own taken.run in
         let all : taken.notes ++ only range h ≡ seen first_beginning rows range (own ++ taken.run) = observed.2 ∙ ap (seen first_beginning rows range) parts in
         let same : taken.notes ≡ seen first_beginning rows range taken.run = fronts Note taken.notes (only range h) (seen first_beginning rows range taken.run) m.0 (all ∙ m.1) count in
         sym all ∙ ap (λ z. z ++ only range h) same
 
+    -- the order of its log, by the copies that its stream has
+    pub log_order : (log : KeepsOrder (log_of (own ++ taken.run))) × (log.copies ≡ (λ l. map (renamed_copy decoded) (order.log.copies l)))
+    log_order =
+        subst (λ z. (log : KeepsOrder (log_of z)) × (log.copies ≡ (λ l. map (renamed_copy decoded) (order.log.copies l)))) parts
+        (subst (λ z. (log : KeepsOrder z) × (log.copies ≡ (λ l. map (renamed_copy decoded) (order.log.copies l)))) (sym k.streams.log)
+        (renamed_keeps decoded (x.story (log_name range)) order.log, renamed_copies decoded (x.story (log_name range)) order.log))
+
     -- IT IS A RANGE OF A FAMILY
-    pub family_range : IsRange (layer_at texts) h range own taken.run rows
+    abbrev pub family_range : IsRange (layer_at texts) h range own taken.run rows
     family_range = record {
       runs = subst (IsChainRun (layer_at texts) first_beginning) parts k.streams.chain;
       layers = subst (ShowsLayers (layer_at texts) first_beginning rows) parts observed.1;
-      log = subst (λ z. KeepsOrder (log_of z)) parts (subst (λ z. KeepsOrder z) (sym k.streams.log) (renamed_keeps decoded (x.story (log_name range)) order.log));
+      log = log_order.0;
       ends = subst (λ z. EndsRise (log_of z)) parts (subst (λ z. EndsRise z) (sym k.streams.log) (renamed_ends_rise decoded (x.story (log_name range)) order.ends));
       metadata = subst (λ z. KeepsOrder (meta_of z)) parts (subst (λ z. KeepsOrder z) (sym k.streams.metadata) (renamed_keeps decoded_record (x.story (metadata_name range)) order.metadata));
       told = told_behind;

@@ -46,7 +46,7 @@ HoldsFirst servers = (s : ℕ) (cell : ServerCell) (st : ServerState) → entry_
 
 -- and these observations are of it
 abbrev AreOfFirst : List TableNote → Type 0
-AreOfFirst notes = (placed : List PlacedBytes) × NotesWithin first_range placed notes
+AreOfFirst notes = (g : ℕ) × (placed : List PlacedBytes) × NotesWithin first_range g placed notes
 
 module _ (x : ServerRun) (laid : RunLaid x) (first : HoldsFirst x.servers) where
   module _ (s : ℕ) (cell : ServerCell) (st : ServerState) (at : entry_at x.servers s ≡ Some cell) (is : cell.state ≡ Some st) where
@@ -66,7 +66,7 @@ module _ (x : ServerRun) (laid : RunLaid x) (first : HoldsFirst x.servers) where
         (next : ServerState) → next.ranges ≡ set_range st.ranges range o.after → HoldsFirst (slice_set x.servers (s - 1) (record cell { state = Some next })) × AreOfFirst o.notes
     effect_first range r held job actions o later taken next left = (
       one_first next mine,
-      ((view_after_all r.load.generation (view_at range x s) actions).shown, subst (λ n. NotesWithin n (view_after_all r.load.generation (view_at range x s) actions).shown o.notes) is_first step.notes),
+      (r.load.generation, (view_after_all r.load.generation (view_at range x s) actions).shown, subst (λ n. NotesWithin n r.load.generation (view_after_all r.load.generation (view_at range x s) actions).shown o.notes) is_first step.notes),
     )
       where
         is_first : range ≡ first_range
@@ -83,13 +83,13 @@ module _ (x : ServerRun) (laid : RunLaid x) (first : HoldsFirst x.servers) where
 
     any_effect : (range : ℕ) (r : RangeState) → range_of st.ranges range ≡ Some r → (job : Option SplitJob) (e : RangeEffect) (o : RangeOutcome) (later : Option SplitJob) → IsEffect IsAnyPair range r job e o later →
         (next : ServerState) → next.ranges ≡ set_range st.ranges range o.after → HoldsFirst (slice_set x.servers (s - 1) (record cell { state = Some next })) × AreOfFirst o.notes
-    any_effect range r held job e o later (Own own actions after left_job step) next left = effect_first range r held job actions o later step next left
-    any_effect range r held job e o later (None_done own after left_job step) next left = effect_first range r held job [] o later step next left
-    any_effect range r held job e o later (OfOthers split d body after left_job step) next left = effect_first range r held (Some split) [] o later step next left
+    any_effect range r held job e o later (Own own actions after left_job step unheard) next left = effect_first range r held job actions o later step next left
+    any_effect range r held job e o later (None_done own after left_job step unheard) next left = effect_first range r held job [] o later step next left
+    any_effect range r held job e o later (OfOthers split d body after left_job step heard) next left = effect_first range r held (Some split) [] o later step next left
 
     turn_first : (e : RangeEffect) (o : ServerOutcome) → Turn IsTheFirst IsAnyPair st e o → HoldsFirst (slice_set x.servers (s - 1) (record cell { state = Some o.after })) × AreOfFirst o.notes
-    turn_first e o (Idles next packets same splits) = (one_first next (λ k r held. first s cell st at is k r (sym (ap (λ l. range_of l k) same) ∙ held)), ([], tt))
-    turn_first e o (Opens range assigned d generation until next packets new splits) = (one_first next mine, ([], tt))
+    turn_first e o (Idles next packets same splits) = (one_first next (λ k r held. first s cell st at is k r (sym (ap (λ l. range_of l k) same) ∙ held)), (0, [], tt))
+    turn_first e o (Opens range assigned d generation until next packets new splits) = (one_first next mine, (0, [], tt))
       where
         mine : (k : ℕ) (r : RangeState) → range_of next.ranges k ≡ Some r → k ≡ first_range
         mine k r held = elim (cases_eq k range) [
@@ -104,14 +104,14 @@ module _ (x : ServerRun) (laid : RunLaid x) (first : HoldsFirst x.servers) where
       | inl none ↦ absurd (let z : None ≡ Some r = sym (ap (λ l. range_of l k) none.0) ∙ held in cc)
       | inr old ↦ first t old.0 old.1 old.2 old.3 k r (sym (ap (λ l. range_of l k) old.4) ∙ held)
     ],
-    ([], tt),
+    (0, [], tt),
   )
   step_first notes y (Passes servers like) = (
     λ t c q there up k r held. elim (like t c q there up) [
       | inl none ↦ absurd (let z : None ≡ Some r = sym (ap (λ l. range_of l k) none.0) ∙ held in cc)
       | inr old ↦ first t old.0 old.1 old.2 old.3 k r (sym (ap (λ l. range_of l k) old.4) ∙ held)
     ],
-    ([], tt),
+    (0, [], tt),
   )
   step_first notes y (Turns s cell st at is e o turn) = turn_first s cell st at is e o turn
 
@@ -137,7 +137,7 @@ module _ (texts : ℕ → Bytes) (batch servers : ℕ) where
       all notes seen =
           let b : SeenBoth texts x.notes more notes = seen_both texts x.notes more notes (subst (λ l. AreSeenAs texts l notes) (event_notes batch servers x event) seen) in
           ap (only first_range) b.is ∙ only_both first_range b.before b.later
-          ∙ (λ i. old.seen b.before b.first_seen i ++ own_notes texts step.1.0 first_range more b.later step.1.1 b.second_seen i) ∙ sym b.is
+          ∙ (λ i. old.seen b.before b.first_seen i ++ own_notes texts step.1.1 first_range step.1.0 more b.later step.1.2 b.second_seen i) ∙ sym b.is
 
   one_more : (event : ServerEvent) (earlier : List ServerEvent) → IsFirst event → IsOfTheFirst (run_of batch servers earlier) → IsOfTheFirst (run_of batch servers (event ∷ earlier))
   one_more event earlier first old = elim (event_kind event) [

@@ -7,6 +7,7 @@ use Rattle.wire.specs.declared.rows.Row.{Row}
 use Rattle.memtable.specs.declared.cell.Place.{Place}
 use Rattle.memtable.specs.Entries.{Entries}
 use Rattle.metadata.specs.declared.record.MetaItem.{MetaItem}
+use Rattle.metadata.specs.Fold.{all_keys}
 use Rattle.metadata.specs.Keys.{within}
 use Rattle.commitlog.specs.Replay.{Numbered}
 use Rattle.commitlog.proofs.Laws.{record_again}
@@ -23,6 +24,7 @@ use Rattle.model_histories.specs.Renaming.{renamed, renamed_copy, renamed_placed
 use Rattle.model_histories.specs.ServedTables.{AllStand, IsAtLine, items_under, is_under, line_to, end_to}
 use Rattle.model_partition.specs.Servers.{entries_if}
 use Rattle.model_partition.specs.Serving.{record_of}
+use Rattle.model_histories.specs.ServerRun.{place_number}
 use Rattle.model_histories.specs.Story.{Placed, StreamEvent, Made, Answered, Showed, Story, event_at, Copy, placed, whole, KeepsOrder, EndsRise}
 use Rattle.model_histories.specs.TableContents.{table_in}
 use Rattle.laws_loads.specs.MemoryLayers.{layer_in}
@@ -222,6 +224,16 @@ out_count append (Some out) fits =
     ap (λ x. length (numbered_if x).items) (record_again (record_of out.first out.transactions) fits) ∙ mapped_length (λ t. t.changes) out.transactions
 
 module _ (texts : ℕ → Bytes) where
+  -- a range is at its line within its keys
+  pub record IsAtLineWithin (log : Story Group) (copies : ℕ → List (Copy Group)) (r : RangeState) : Type 0 where
+    pub position : place_number r.position ≡ end_to log r.load.generation
+    pub next : r.next ≡ suc (length (line_to (renamed decoded (whole Group copies log)) r.load.generation)) + length (waiting_out r.out)
+    pub table : (key : Bytes) → within r.said.keys key ≡ true → table_in texts (served_entries texts r) key ≡ after_line (line_to (renamed decoded (whole Group copies log)) r.load.generation) empty_table key
+
+  -- and for all keys, if it has all
+  pub at_line : (log : Story Group) (copies : ℕ → List (Copy Group)) (r : RangeState) → r.said.keys ≡ all_keys → IsAtLineWithin log copies r → IsAtLine texts log copies r
+  at_line log copies r all at = record { position = at.position; next = at.next; table = λ key. at.table key (ap (λ keys. within keys key) all ∙ in_all key) }
+
   -- ---- layers in order
 
   newer_same : (x : Option Entries) (key : Bytes) → layer_in texts (entries_if x) key ≡ newer_layer texts x key
@@ -256,10 +268,9 @@ module _ (texts : ℕ → Bytes) where
     abbrev m : Matches texts v s r
     m = k.matches
 
-    -- the range's own layers
-    known_table : (key : Bytes) → table_in texts (served_entries texts r) key ≡ flat (known_at texts r key)
-    known_table key =
-        let inside : within r.said.keys key ≡ true = ap (λ keys. within keys key) m.named.keys ∙ in_all key in
+    -- the range's own layers, within its keys
+    known_table : (key : Bytes) → within r.said.keys key ≡ true → table_in texts (served_entries texts r) key ≡ flat (known_at texts r key)
+    known_table key inside =
         table_flat texts (served_entries texts r) key
         ∙ ap flat (served_layer texts r r.said.indexes key m.installed (written_ascending texts r.said.indexes (written_named texts r.said.indexes m.named.indexes)) (ascending_if r.live m.ordered)
         (fixed_ordered (parts_of v s r) r.control m.checkpoint) inside)
@@ -269,13 +280,13 @@ module _ (texts : ℕ → Bytes) where
     all_out story line None h = h.is_line ∙ sym (append-nil line)
     all_out story line (Some out) h = h.is_line
 
-    -- a range that is served is at its line, by any copies that belong to its loads
-    pub at_line : (rows : ℕ → List Row) → ShowsLayers (layer_at texts) first_beginning rows run → (order : KeepsOrder (log_of v)) → EndsRise (log_of v) → KeepsOrder (metadata_of v) → OutFits r.out → AllStand texts v.answered →
-        IsAtLine texts (log_of v) order.copies r
-    at_line rows shows order ends metadata_order fits stand = record {
+    -- a range that is served is at its line within its keys, by any copies that belong to its loads
+    pub at_own_keys : (rows : ℕ → List Row) → ShowsLayers (layer_at texts) first_beginning rows run → (order : KeepsOrder (log_of v)) → EndsRise (log_of v) → KeepsOrder (metadata_of v) → OutFits r.out → AllStand texts v.answered →
+        IsAtLineWithin (log_of v) order.copies r
+    at_own_keys rows shows order ends metadata_order fits stand = record {
       position = m.position ∙ position_at g (layer_at texts) run streams.chain ∙ ap (λ l. end_to l g) streams.log ∙ end_renamed (log_of v) g;
       next = m.next ∙ own.next ∙ (λ i. suc (length (line_is i)) + count i);
-      table = λ key. known_table key ∙ own.table key (ap (λ keys. within keys key) m.named.keys ∙ in_all key) ∙ ap (λ l. after_line l empty_table key) line_is;
+      table = λ key there. known_table key there ∙ own.table key there ∙ ap (λ l. after_line l empty_table key) line_is;
     }
       where
         copies : ℕ → List (Copy (Numbered Transaction))

@@ -3,7 +3,7 @@ use Rattle.std.proofs.Common.{◌≡◌, ℕ, Bool, true, false, List, [], ◌�
 use Rattle.std.proofs.lemmas.Bool.{eqb-true}
 use Rattle.memtable.specs.declared.cell.Place.{Place}
 use Rattle.metadata.specs.declared.record.MetaItem.{MetaItem}
-use Rattle.metadata.specs.Fold.{first_metadata}
+use Rattle.metadata.specs.Fold.{MetadataState, first_metadata, all_keys}
 use Rattle.commitlog.specs.Replay.{Numbered}
 use Rattle.model_partition.specs.Loading.{Group}
 use Rattle.model_histories.specs.Log.{line_shown}
@@ -17,10 +17,10 @@ use Rattle.laws_tables.proofs.Range.{newest, older}
 use Rattle.laws_tables.specs.Runs as chains
 use Rattle.laws_tables.specs.Runs.{Run, Serving, first_beginning, record_group, held, meta_of}
 use Rattle.laws_tables.specs.Through.{OutAppend}
-use Rattle.laws_server_runs.specs.NamedIndexes.{NamesSuch}
+use Rattle.laws_server_runs.specs.NamedIndexes.{AreNamed}
 use Rattle.laws_server_runs.specs.RangeInvariant.{AreCheckpoints, StreamsKept, Serves}
-use Rattle.laws_server_runs.proofs.LoadedRecords.{AreOfCheckpoints, both_of, item_there, shown_of_checkpoints}
-use Rattle.laws_server_runs.proofs.NamedIndexes.{all_named, first_named}
+use Rattle.laws_server_runs.proofs.LoadedRecords.{AreItems, both_of, AreMadeOf, shown_of, IsOfRecord, made_of_records, NamesNone, keys_stay}
+use Rattle.laws_server_runs.proofs.NamedIndexes.{all_named}
 
 -- ---- the record that is out
 
@@ -66,12 +66,12 @@ same_records : (b : Bool) (t u : Serving) → t.records ≡ u.records → (if b 
 same_records true t u same = same
 same_records false t u same = refl
 
--- the places of whose indexes this is so
-module _ (Holds : Place → Type 0) where
-  -- all that was formed is of checkpoints, and so is what loads show
+-- items of which this is so
+module _ (Is : MetaItem → Type 0) where
+  -- all that was formed is of such, and so is what loads show
   record AreRecords (story : Story (Numbered MetaItem)) : Type 0 where
-    made : (a g : ℕ) (group : Numbered MetaItem) → event_at story a ≡ Some (Made g group) → AreOfCheckpoints Holds group.items
-    shown : (l g start end : ℕ) (groups : List (Placed (Numbered MetaItem))) → event_at story l ≡ Some (Showed g start end groups) → AreOfCheckpoints Holds (line_shown groups)
+    made : (a g : ℕ) (group : Numbered MetaItem) → event_at story a ≡ Some (Made g group) → AreItems Is group.items
+    shown : (l g start end : ℕ) (groups : List (Placed (Numbered MetaItem))) → event_at story l ≡ Some (Showed g start end groups) → AreItems Is (line_shown groups)
 
   earlier_records : (e : StreamEvent (Numbered MetaItem)) (story : Story (Numbered MetaItem)) → AreRecords (e ∷ story) → AreRecords story
   earlier_records e story all = record {
@@ -79,26 +79,26 @@ module _ (Holds : Place → Type 0) where
     shown = λ l g start end groups at. all.shown l g start end groups (older (Numbered MetaItem) e story l (Showed g start end groups) at);
   }
 
-  records_renamed : (story : Story Group) → KeepsOrder story → AreCheckpoints Holds story → AreRecords (renamed decoded_record story)
-  records_renamed story order records = record {
+  records_renamed : (story : Story Group) → KeepsOrder story → AreMadeOf Is story → AreRecords (renamed decoded_record story)
+  records_renamed story order made = record {
     made = λ a g group at.
         let old : (one : Group) × (event_at story a ≡ Some (Made g one)) × (decoded_record one ≡ group) = made_from decoded_record story a g group at in
-        subst (λ (n : Numbered MetaItem). AreOfCheckpoints Holds n.items) old.2 (item_there Holds old.0 (records a g old.0 old.1));
+        subst (λ (n : Numbered MetaItem). AreItems Is n.items) old.2 (made a g old.0 old.1);
     shown = λ l g start end groups at.
         let old : (some : List (Placed Group)) × (event_at story l ≡ Some (Showed g start end some)) × (map (renamed_placed decoded_record) some ≡ groups) = showed_from decoded_record story l g start end groups at in
-        subst (λ xs. AreOfCheckpoints Holds (line_shown xs)) old.2 (shown_of_checkpoints Holds story order records l g start end old.0 old.1);
+        subst (λ xs. AreItems Is (line_shown xs)) old.2 (shown_of Is story order made l g start end old.0 old.1);
   }
 
   -- the record that is out
-  out_of : (run : Run) (g : ℕ) → AreRecords (meta_of run) → (out : Option (OutAppend MetaItem)) → (held first_beginning run g).record_out ≡ out → AreOfCheckpoints Holds (chains.items_out out)
+  out_of : (run : Run) (g : ℕ) → AreRecords (meta_of run) → (out : Option (OutAppend MetaItem)) → (held first_beginning run g).record_out ≡ out → AreItems Is (chains.items_out out)
   out_of run g all None e = tt
   out_of run g all (Some out) e = all.made out.append g out.group (record_begun run g out e)
 
   abbrev HeldRecords : Run → ℕ → Type 0
-  HeldRecords run g = AreOfCheckpoints Holds (held first_beginning run g).records
+  HeldRecords run g = AreItems Is (held first_beginning run g).records
 
-  as_before : (run : Run) (g h : ℕ) (t : Serving) → t.records ≡ (held first_beginning run g).records → HeldRecords run g → AreOfCheckpoints Holds (if g == h then t else held first_beginning run g).records
-  as_before run g h t same all = subst (AreOfCheckpoints Holds) (sym (same_records (g == h) t (held first_beginning run g) same)) all
+  as_before : (run : Run) (g h : ℕ) (t : Serving) → t.records ≡ (held first_beginning run g).records → HeldRecords run g → AreItems Is (if g == h then t else held first_beginning run g).records
+  as_before run g h t same all = subst (AreItems Is) (sym (same_records (g == h) t (held first_beginning run g) same)) all
 
   held_records : (run : Run) (g : ℕ) → AreRecords (meta_of run) → HeldRecords run g
   held_records [] g all = tt
@@ -112,23 +112,33 @@ module _ (Holds : Place → Type 0) where
       let earlier : AreRecords (meta_of run) = earlier_records (Answered append from to) (meta_of run) all in
       go (held_records run g earlier) (out_of run g earlier (held first_beginning run g).record_out refl) (g == h)
     where
-      go : HeldRecords run g → AreOfCheckpoints Holds (chains.items_out (held first_beginning run g).record_out) → (b : Bool) →
-          AreOfCheckpoints Holds (if b then chains.recorded (held first_beginning run g) else held first_beginning run g).records
-      go line out true = both_of Holds (held first_beginning run g).records (chains.items_out (held first_beginning run g).record_out) line out
+      go : HeldRecords run g → AreItems Is (chains.items_out (held first_beginning run g).record_out) → (b : Bool) →
+          AreItems Is (if b then chains.recorded (held first_beginning run g) else held first_beginning run g).records
+      go line out true = both_of Is (held first_beginning run g).records (chains.items_out (held first_beginning run g).record_out) line out
       go line out false = line
   held_records (chains.Trims h place ∷ run) g all = held_records run g all
   held_records (chains.Confirms h start end groups metadata_end records ∷ run) g all =
       let shows : StreamEvent (Numbered MetaItem) = Showed h 0 metadata_end records in
       go (held_records run g (earlier_records shows (meta_of run) all)) (all.shown (length (meta_of run)) h 0 metadata_end records (newest (Numbered MetaItem) shows (meta_of run))) (g == h)
     where
-      go : HeldRecords run g → AreOfCheckpoints Holds (line_shown records) → (b : Bool) →
-          AreOfCheckpoints Holds (if b then chains.confirmed first_beginning start end groups records else held first_beginning run g).records
+      go : HeldRecords run g → AreItems Is (line_shown records) → (b : Bool) →
+          AreItems Is (if b then chains.confirmed first_beginning start end groups records else held first_beginning run g).records
       go line shown true = shown
       go line shown false = line
 
-  -- the metadata of a range that is served names such indexes alone
-  pub named_by_server : (texts : ℕ → Bytes) (run : Run) (v : RangeView) (r : RangeState) → StreamsKept texts run v → KeepsOrder (metadata_of v) → AreCheckpoints Holds (metadata_of v) → Serves texts run v r → NamesSuch Holds r.said
-  named_by_server texts run v r streams order records serves =
-      let all : AreRecords (meta_of run) = subst AreRecords (sym streams.metadata) (records_renamed (metadata_of v) order records) in
-      subst (NamesSuch Holds) (sym serves.matches.said)
-      (all_named Holds (held first_beginning run r.load.generation).records first_metadata (held_records run r.load.generation all) (first_named Holds))
+  -- so are the records that the server of a generation holds
+  pub held_items : (texts : ℕ → Bytes) (run : Run) (v : RangeView) (g : ℕ) → StreamsKept texts run v → KeepsOrder (metadata_of v) → AreMadeOf Is (metadata_of v) → HeldRecords run g
+  held_items texts run v g streams order made = held_records run g (subst AreRecords (sym streams.metadata) (records_renamed (metadata_of v) order made))
+
+-- the metadata of a range that is served names such indexes alone
+pub named_by_server : (Holds : Place → Type 0) (texts : ℕ → Bytes) (run : Run) (v : RangeView) (r : RangeState) → StreamsKept texts run v → KeepsOrder (metadata_of v) → AreCheckpoints Holds (metadata_of v) → Serves texts run v r → AreNamed Holds r.said.indexes
+named_by_server Holds texts run v r streams order records serves =
+    subst (λ (m : MetadataState). AreNamed Holds m.indexes) (sym serves.matches.said)
+    (all_named Holds (held first_beginning run r.load.generation).records first_metadata
+    (held_items (IsOfRecord Holds) texts run v r.load.generation streams order (made_of_records Holds (metadata_of v) records)) tt)
+
+-- where no record names keys it has those that it began with
+pub keys_by_server : (texts : ℕ → Bytes) (run : Run) (v : RangeView) (r : RangeState) → StreamsKept texts run v → KeepsOrder (metadata_of v) → AreMadeOf NamesNone (metadata_of v) → Serves texts run v r → r.said.keys ≡ all_keys
+keys_by_server texts run v r streams order none serves =
+    ap (λ (m : MetadataState). m.keys) serves.matches.said
+    ∙ keys_stay (held first_beginning run r.load.generation).records first_metadata (held_items NamesNone texts run v r.load.generation streams order none)

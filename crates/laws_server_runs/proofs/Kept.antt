@@ -21,11 +21,11 @@ use Rattle.laws_loads.proofs.Entries.{entry_set, entry_other}
 use Rattle.laws_loads.specs.RangeView.{view_after_all}
 use Rattle.laws_server_runs.specs.Places.{StepLaid, RunLaid}
 use Rattle.laws_server_runs.specs.RangeInvariant.{StreamsKept, InOrder}
-use Rattle.laws_server_runs.specs.RunInvariant.{view_at, AreApart, Taken, RunBehind}
+use Rattle.laws_server_runs.specs.RunInvariant.{view_at, AreApart, Taken, RunBehind, RunOn}
 use Rattle.laws_server_runs.specs.Turns.{IsStep, LeavesSplit, IsEffect, Own, None_done, OfOthers, Turn, Idles, Opens, Acts, HoldNoMore, RunStep, Keeps, Passes, Turns}
 use Rattle.laws_server_runs.proofs.Actions.{same_test, other_test, actions_here, actions_apart, actions_beside, actions_bytes, actions_rest, AreOthers, SidesBeside, sides_beside, sides_rest}
-use Rattle.laws_server_runs.proofs.Beside.{Was, IsNew, beside_kept}
-use Rattle.laws_server_runs.proofs.Fronts.{SeenBoth, seen_both}
+use Rattle.laws_server_runs.proofs.Beside.{Was, IsNew, IsBeside, beside_on}
+use Rattle.laws_server_runs.proofs.Fronts.{SeenBoth, seen_both, longer_twice}
 use Rattle.laws_server_runs.proofs.LaidRuns.{sides_laid}
 use Rattle.laws_server_runs.proofs.LaidSplits.{laid_step}
 use Rattle.laws_server_runs.proofs.SideActions.{sides_append, sides_others}
@@ -34,7 +34,7 @@ use Rattle.laws_server_runs.proofs.Others.{streams_same}
 use Rattle.laws_server_runs.proofs.OwnNotes.{only_both, own_notes, other_notes}
 use Rattle.laws_server_runs.proofs.RangeLists.{inserted_here, inserted_other, dropped_here, dropped_other, left_here, left_other}
 use Rattle.laws_server_runs.proofs.RunSteps.{IsAny, IsAnyPair}
-use Rattle.laws_server_runs.proofs.Steps.{stepped_kept}
+use Rattle.laws_server_runs.proofs.Steps.{stepped_on}
 
 and_false : (b : Bool) → (b && false) ≡ false
 and_false true = refl
@@ -42,7 +42,7 @@ and_false false = refl
 
 module _ (texts : ℕ → Bytes) (subject : ℕ) (taken : Taken) (x : ServerRun) (laid : RunLaid x) (kept : RunBehind texts subject taken x) where
   abbrev Kept : ServerRun → Type 0
-  Kept y = InOrder texts (view_at subject y 0) → RunBehind texts subject taken y
+  Kept y = InOrder texts (view_at subject y 0) → RunOn texts subject taken x kept y
 
   -- nothing is shown
   silent : (notes : List Note) → AreSeenAs texts (x.notes ++ []) notes → (before : List Note) × AreSeenAs texts x.notes before × (only subject notes ≡ only subject before)
@@ -56,15 +56,24 @@ module _ (texts : ℕ → Bytes) (subject : ℕ) (taken : Taken) (x : ServerRun)
     | inr old ↦ inl (old.0, old.1, old.2, old.3, sym (ap (λ l. range_of l subject) old.4) ∙ held, same t, ap (λ l. split_of l subject) old.5)
   ]
 
-  keeps : (servers : List ServerCell) (packets : List Packet) → HoldNoMore x.servers servers → RunBehind texts subject taken (with_outcome x (record { servers = servers; packets = packets; notes = [] }))
-  keeps servers packets like =
-      let y : ServerRun = with_outcome x (record { servers = servers; packets = packets; notes = [] }) in
-      beside_kept texts subject taken x kept y (record { holds = like_was servers like y (λ t. refl); story = λ kind. refl; answered = refl; notes = silent })
+  abbrev Beside : ServerRun → Type 0
+  Beside y = IsBeside texts subject taken x kept y
 
-  passes : (servers : List ServerCell) → HoldNoMore x.servers servers → RunBehind texts subject taken (record x { servers = servers })
-  passes servers like =
+  pub keeps_beside : (servers : List ServerCell) (packets : List Packet) → HoldNoMore x.servers servers → Beside (with_outcome x (record { servers = servers; packets = packets; notes = [] }))
+  keeps_beside servers packets like =
+      let y : ServerRun = with_outcome x (record { servers = servers; packets = packets; notes = [] }) in
+      record { holds = like_was servers like y (λ t. refl); story = λ kind. refl; answered = refl; notes = silent }
+
+  keeps : (servers : List ServerCell) (packets : List Packet) → HoldNoMore x.servers servers → RunOn texts subject taken x kept (with_outcome x (record { servers = servers; packets = packets; notes = [] }))
+  keeps servers packets like = beside_on texts subject taken x kept (with_outcome x (record { servers = servers; packets = packets; notes = [] })) (keeps_beside servers packets like)
+
+  pub passes_beside : (servers : List ServerCell) → HoldNoMore x.servers servers → Beside (record x { servers = servers })
+  passes_beside servers like =
       let y : ServerRun = record x { servers = servers } in
-      beside_kept texts subject taken x kept y (record { holds = like_was servers like y (λ t. refl); story = λ kind. refl; answered = refl; notes = λ notes seen. (notes, seen, refl) })
+      record { holds = like_was servers like y (λ t. refl); story = λ kind. refl; answered = refl; notes = λ notes seen. (notes, seen, refl) }
+
+  passes : (servers : List ServerCell) → HoldNoMore x.servers servers → RunOn texts subject taken x kept (record x { servers = servers })
+  passes servers like = beside_on texts subject taken x kept (record x { servers = servers }) (passes_beside servers like)
 
   -- ---- a server takes a turn
 
@@ -88,25 +97,28 @@ module _ (texts : ℕ → Bytes) (subject : ℕ) (taken : Taken) (x : ServerRun)
         | inr other ↦ inl (c, q, sym (entry_other x.servers s cell (record cell { state = Some next }) at t other) ∙ sym (ap (λ l. entry_at l t) servers_are) ∙ there, up, held, apart t other, refl)
       ]
 
-    idles : (next : ServerState) (packets : List Packet) → next.ranges ≡ st.ranges → next.splits ≡ st.splits → RunBehind texts subject taken (Next Rests (record { after = next; packets = packets; notes = [] }))
-    idles next packets same splits =
+    pub idles_beside : (next : ServerState) (packets : List Packet) → next.ranges ≡ st.ranges → next.splits ≡ st.splits → Beside (Next Rests (record { after = next; packets = packets; notes = [] }))
+    idles_beside next packets same splits =
         let y : ServerRun = Next Rests (record { after = next; packets = packets; notes = [] }) in
-        beside_kept texts subject taken x kept y (record {
+        record {
           holds = held_by next y refl (λ t other. refl) (λ r held. inl (cell, st, at, is, sym (ap (λ l. range_of l subject) same) ∙ held, refl, ap (λ l. split_of l subject) splits));
           story = λ kind. refl;
           answered = refl;
           notes = silent;
-        })
+        }
 
-    opens : (range : ℕ) (d : ServerContext) (generation until : ℕ) (next : ServerState) (packets : List Packet) → next.ranges ≡ insert_entry nat_cmp st.ranges range (new_range d range generation until) → next.splits ≡ set_split st.splits range None →
-        RunBehind texts subject taken (Next (Begins range) (record { after = next; packets = packets; notes = [] }))
-    opens range d generation until next packets new splits =
-        beside_kept texts subject taken x kept y (record {
+    idles : (next : ServerState) (packets : List Packet) → next.ranges ≡ st.ranges → next.splits ≡ st.splits → RunOn texts subject taken x kept (Next Rests (record { after = next; packets = packets; notes = [] }))
+    idles next packets same splits = beside_on texts subject taken x kept (Next Rests (record { after = next; packets = packets; notes = [] })) (idles_beside next packets same splits)
+
+    pub opens_beside : (range : ℕ) (d : ServerContext) (generation until : ℕ) (next : ServerState) (packets : List Packet) → next.ranges ≡ insert_entry nat_cmp st.ranges range (new_range d range generation until) → next.splits ≡ set_split st.splits range None →
+        Beside (Next (Begins range) (record { after = next; packets = packets; notes = [] }))
+    opens_beside range d generation until next packets new splits =
+        record {
           holds = held_by next y refl (λ t other. ap (λ b. if b then first_history else x.history t subject) (ap (λ b. b && (subject == range)) (other_test t s other))) mine;
           story = λ kind. refl;
           answered = refl;
           notes = silent;
-        })
+        }
       where
         y : ServerRun
         y = Next (Begins range) (record { after = next; packets = packets; notes = [] })
@@ -138,6 +150,11 @@ module _ (texts : ℕ → Bytes) (subject : ℕ) (taken : Taken) (x : ServerRun)
               )
         ]
 
+    opens : (range : ℕ) (d : ServerContext) (generation until : ℕ) (next : ServerState) (packets : List Packet) → next.ranges ≡ insert_entry nat_cmp st.ranges range (new_range d range generation until) → next.splits ≡ set_split st.splits range None →
+        RunOn texts subject taken x kept (Next (Begins range) (record { after = next; packets = packets; notes = [] }))
+    opens range d generation until next packets new splits =
+        beside_on texts subject taken x kept (Next (Begins range) (record { after = next; packets = packets; notes = [] })) (opens_beside range d generation until next packets new splits)
+
     -- what a step leaves of the splits
     split_here : (range : ℕ) (later : Option SplitJob) (after : List (ℕ × SplitJob)) → LeavesSplit st.splits range later after → split_of after range ≡ later
     split_here range later after (inl (same, is_later)) = ap (λ l. split_of l range) same ∙ is_later
@@ -159,28 +176,27 @@ module _ (texts : ℕ → Bytes) (subject : ℕ) (taken : Taken) (x : ServerRun)
       step_laid range held job step = laid_step range (view_at range x s) r (laid.ranges s cell st at is range r held) IsAnyPair job actions o later step
 
       -- the range itself
-      acts_here : range_of st.ranges subject ≡ Some r → IsStep IsAnyPair r (split_of st.splits subject) actions o later → next.ranges ≡ set_range st.ranges subject o.after → LeavesSplit st.splits subject later next.splits → Kept (After subject)
+      pub acts_here : range_of st.ranges subject ≡ Some r → IsStep IsAnyPair r (split_of st.splits subject) actions o later → next.ranges ≡ set_range st.ranges subject o.after → LeavesSplit st.splits subject later next.splits → Kept (After subject)
       acts_here held step left splits order =
           let all : InOrder texts (view_at subject (After subject) s) = record { log = order.log; metadata = order.metadata; once = order.once; ends = order.ends; shown = order.shown; answered = order.answered } in
           let here : InOrder texts (view_after_all r.load.generation (view_at subject x s) actions) = subst (λ v. InOrder texts v) (actions_here s subject r.load.generation x actions) all in
           let streams : StreamsKept texts kept.run (view_at subject x s) = streams_same texts kept.run (view_at subject x 0) (view_at subject x s) refl refl kept.streams in
           let l : StepLaid subject (view_at subject x s) r.load.generation actions o = step_laid subject held (split_of st.splits subject) step in
-          stepped_kept texts subject taken x kept s cell st at is r held actions o later
+          stepped_on texts subject taken x kept s cell st at is r held actions o later
           (step_turn texts subject kept.run (view_at subject x s) r streams (laid.ranges s cell st at is subject r held).low IsAnyPair (split_of st.splits subject) actions o later step (kept.ranges s cell st at is r held) here)
-          (λ notes seen. own_notes texts (view_after_all r.load.generation (view_at subject x s) actions).shown subject o.notes notes l.notes seen)
+          (λ notes seen. own_notes texts (view_after_all r.load.generation (view_at subject x s) actions).shown subject r.load.generation o.notes notes l.notes seen)
           next (ap (λ z. range_of z subject) left ∙ left_here st.ranges subject r o.after (laid.ascending s cell st at is) held) (split_here subject later next.splits splits) packets
 
       -- another range
-      acts_beside : (range : ℕ) → (subject ≡ range → ⊥) → range_of st.ranges range ≡ Some r → (job : Option SplitJob) → IsStep IsAnyPair r job actions o later → next.ranges ≡ set_range st.ranges range o.after → LeavesSplit st.splits range later next.splits →
-          RunBehind texts subject taken (After range)
-      acts_beside range other held job step left splits =
-          beside_kept texts subject taken x kept (After range) (record {
-            holds = held_by next (After range) refl (λ t apart. same_history t)
-                (λ z found. inl (cell, st, at, is, sym (left_other st.ranges range o.after subject other) ∙ sym (ap (λ l. range_of l subject) left) ∙ found, same_history s, split_other range later next.splits subject other splits));
-            story = λ kind. actions_beside s range r.load.generation (stream_named subject kind) (other_test subject range other) x actions;
-            answered = (actions_bytes s range r.load.generation subject other x actions).1;
-            notes = told;
-          })
+      pub is_beside : (range : ℕ) → (subject ≡ range → ⊥) → range_of st.ranges range ≡ Some r → (job : Option SplitJob) → IsStep IsAnyPair r job actions o later → next.ranges ≡ set_range st.ranges range o.after → LeavesSplit st.splits range later next.splits →
+          Beside (After range)
+      is_beside range other held job step left splits = record {
+        holds = held_by next (After range) refl (λ t apart. same_history t)
+            (λ z found. inl (cell, st, at, is, sym (left_other st.ranges range o.after subject other) ∙ sym (ap (λ l. range_of l subject) left) ∙ found, same_history s, split_other range later next.splits subject other splits));
+        story = λ kind. actions_beside s range r.load.generation (stream_named subject kind) (other_test subject range other) x actions;
+        answered = (actions_bytes s range r.load.generation subject other x actions).1;
+        notes = told;
+      }
         where
           same_history : (t : ℕ) → (after_actions s range r.load.generation x actions).history t subject ≡ x.history t subject
           same_history t = actions_apart s range r.load.generation t subject ((λ i. (t == s) && other_test subject range other i) ∙ and_false (t == s)) x actions
@@ -190,18 +206,18 @@ module _ (texts : ℕ → Bytes) (subject : ℕ) (taken : Taken) (x : ServerRun)
           told notes seen =
               let b : SeenBoth texts (after_actions s range r.load.generation x actions).notes o.notes notes = seen_both texts (after_actions s range r.load.generation x actions).notes o.notes notes seen in
               let l : StepLaid range (view_at range x s) r.load.generation actions o = step_laid range held job step in
-              let none : only subject b.later ≡ [] = other_notes texts (view_after_all r.load.generation (view_at range x s) actions).shown range subject other o.notes b.later l.notes b.second_seen in (
+              let none : only subject b.later ≡ [] = other_notes texts (view_after_all r.load.generation (view_at range x s) actions).shown range r.load.generation subject other o.notes b.later l.notes b.second_seen in (
                 b.before,
                 subst (λ l. AreSeenAs texts l b.before) (actions_rest s range r.load.generation x actions).1 b.first_seen,
                 ap (only subject) b.is ∙ only_both subject b.before b.later ∙ ap (λ l. only subject b.before ++ l) none ∙ append-nil (only subject b.before),
               )
 
-      acts : (range : ℕ) → range_of st.ranges range ≡ Some r → IsStep IsAnyPair r (split_of st.splits range) actions o later → next.ranges ≡ set_range st.ranges range o.after → LeavesSplit st.splits range later next.splits → Kept (After range)
+      pub acts : (range : ℕ) → range_of st.ranges range ≡ Some r → IsStep IsAnyPair r (split_of st.splits range) actions o later → next.ranges ≡ set_range st.ranges range o.after → LeavesSplit st.splits range later next.splits → Kept (After range)
       acts range held step left splits order = elim (cases_eq subject range) [
         | inl same ↦
             subst (λ n. range_of st.ranges n ≡ Some r → IsStep IsAnyPair r (split_of st.splits n) actions o later → next.ranges ≡ set_range st.ranges n o.after → LeavesSplit st.splits n later next.splits → Kept (After n)) same acts_here
             held step left splits order
-        | inr other ↦ acts_beside range other held (split_of st.splits range) step left splits
+        | inr other ↦ beside_on texts subject taken x kept (After range) (is_beside range other held (split_of st.splits range) step left splits)
       ]
 
 -- ---- the two ranges that a split makes
@@ -213,20 +229,29 @@ module _ (texts : ℕ → Bytes) (subject : ℕ) (taken : Taken) (s g : ℕ) (x 
   apart : SidesBeside subject x told_run
   apart = sides_beside s g subject x sides others
 
-  -- a range that is none of them
-  pub sides_kept : RunBehind texts subject taken told_run
-  sides_kept = beside_kept texts subject taken x kept told_run (record {
+  pub told_beside : IsBeside texts subject taken x kept told_run
+  told_beside = record {
     holds = λ t c q there up r held. inl (c, q, subst (λ l. entry_at l t ≡ Some c) (sides_rest s g x sides).0 there, up, held, apart.history t, refl);
     story = λ kind. apart.story (stream_named subject kind) refl;
     answered = apart.answered;
     notes = λ notes seen. (notes, subst (λ l. AreSeenAs texts l notes) (sides_rest s g x sides).1 seen, refl);
-  })
+  }
+
+  -- a range that is none of them
+  pub sides_on : RunOn texts subject taken x kept told_run
+  sides_on = beside_on texts subject taken x kept told_run told_beside
+
+-- ---- one step, and then another
+
+module _ (texts : ℕ → Bytes) (subject : ℕ) (taken : Taken) (x : ServerRun) (old : RunBehind texts subject taken x) where
+  pub both_on : (y : ServerRun) (first : RunOn texts subject taken x old y) (z : ServerRun) → RunOn texts subject taken y first.kept z → RunOn texts subject taken x old z
+  both_on y first z second = record { kept = second.kept; goes = longer_twice old.run first.kept.run second.kept.run first.goes second.goes }
 
 -- ---- a step of all
 
 module _ (texts : ℕ → Bytes) (subject : ℕ) (taken : Taken) (x : ServerRun) (laid : RunLaid x) (kept : RunBehind texts subject taken x) (apart : AreApart subject x.servers) where
   abbrev KeptThen : ServerRun → Type 0
-  KeptThen y = InOrder texts (view_at subject y 0) → RunBehind texts subject taken y
+  KeptThen y = InOrder texts (view_at subject y 0) → RunOn texts subject taken x kept y
 
   module _ (s : ℕ) (cell : ServerCell) (st : ServerState) (at : entry_at x.servers s ≡ Some cell) (is : cell.state ≡ Some st) where
     abbrev Then : RangeEffect → ServerOutcome → ServerRun
@@ -234,14 +259,12 @@ module _ (texts : ℕ → Bytes) (subject : ℕ) (taken : Taken) (x : ServerRun)
 
     effect_kept : (range : ℕ) (r : RangeState) → range_of st.ranges range ≡ Some r → (job : Option SplitJob) → split_of st.splits range ≡ job → (e : RangeEffect) (o : RangeOutcome) (later : Option SplitJob) → IsEffect IsAnyPair range r job e o later →
         (next : ServerState) (packets : List Packet) → next.ranges ≡ set_range st.ranges range o.after → LeavesSplit st.splits range later next.splits → KeptThen (Then e (record { after = next; packets = packets; notes = o.notes }))
-    effect_kept range r held job split e o later (Own own actions after left_job step) next packets left splits order =
+    effect_kept range r held job split e o later (Own own actions after left_job step unheard) next packets left splits order =
         acts texts subject taken x laid kept s cell st at is r actions o later next packets range held (subst (λ j. IsStep IsAnyPair r j actions o later) (sym split) step) left splits order
-    effect_kept range r held job split e o later (None_done own after left_job step) next packets left splits order =
+    effect_kept range r held job split e o later (None_done own after left_job step unheard) next packets left splits order =
         acts texts subject taken x laid kept s cell st at is r [] o later next packets range held (subst (λ j. IsStep IsAnyPair r j [] o later) (sym split) step) left splits order
-    effect_kept range r held job split e o later (OfOthers splitting d body after left_job step) next packets left splits order =
-        subst (λ servers. KeptThen (with_outcome y (record { servers = slice_set servers (s - 1) (record cell { state = Some next }); packets = packets; notes = o.notes }))) rest
-        (acts texts subject taken y (sides_laid s splitting.generation x laid sides (sides_append d r splitting body)) (sides_kept texts subject taken s splitting.generation x kept sides others)
-        s cell st (subst (λ l. entry_at l s ≡ Some cell) (sym rest) at) is r [] o later next packets range held (subst (λ j. IsStep IsAnyPair r j [] o later) (sym split) step) left splits) order
+    effect_kept range r held job split e o later (OfOthers splitting d body after left_job step heard) next packets left splits order =
+        subst (λ servers. KeptThen (with_outcome y (record { servers = slice_set servers (s - 1) (record cell { state = Some next }); packets = packets; notes = o.notes }))) rest from_sides order
       where
         sides : List SideAction
         sides = split_sides d r splitting body
@@ -255,13 +278,25 @@ module _ (texts : ℕ → Bytes) (subject : ℕ) (taken : Taken) (x : ServerRun)
         rest : y.servers ≡ x.servers
         rest = (sides_rest s splitting.generation x sides).0
 
+        aside : RunOn texts subject taken x kept y
+        aside = sides_on texts subject taken s splitting.generation x kept sides others
+
+        from_sides : KeptThen (with_outcome y (record { servers = slice_set y.servers (s - 1) (record cell { state = Some next }); packets = packets; notes = o.notes }))
+        from_sides now =
+            both_on texts subject taken x kept y aside (with_outcome y (record { servers = slice_set y.servers (s - 1) (record cell { state = Some next }); packets = packets; notes = o.notes }))
+            (acts texts subject taken y (sides_laid s splitting.generation x laid sides (sides_append d r splitting body)) aside.kept
+            s cell st (subst (λ l. entry_at l s ≡ Some cell) (sym rest) at) is r [] o later next packets range held (subst (λ j. IsStep IsAnyPair r j [] o later) (sym split) step) left splits now)
+
     turn_kept : (e : RangeEffect) (o : ServerOutcome) → Turn IsAny IsAnyPair st e o → KeptThen (Then e o)
     turn_kept e o (Idles next packets same splits) order = idles texts subject taken x laid kept s cell st at is next packets same splits
     turn_kept e o (Opens range assigned d generation until next packets new splits) order = opens texts subject taken x laid kept s cell st at is range d generation until next packets new splits
     turn_kept e o (Acts range r held effect ro later is_effect next packets left splits) order = effect_kept range r held (split_of st.splits range) refl effect ro later is_effect next packets left splits order
 
   -- whatever comes to servers none of whose splits makes the range
-  pub step_kept : (notes : List TableNote) (y : ServerRun) → RunStep IsAny IsAnyPair x notes y → KeptThen y
-  step_kept notes y (Keeps servers packets like) order = keeps texts subject taken x laid kept servers packets like
-  step_kept notes y (Passes servers like) order = passes texts subject taken x laid kept servers like
-  step_kept notes y (Turns s cell st at is e o turn) order = turn_kept s cell st at is e o turn order
+  pub step_on : (notes : List TableNote) (y : ServerRun) → RunStep IsAny IsAnyPair x notes y → KeptThen y
+  step_on notes y (Keeps servers packets like) order = keeps texts subject taken x laid kept servers packets like
+  step_on notes y (Passes servers like) order = passes texts subject taken x laid kept servers like
+  step_on notes y (Turns s cell st at is e o turn) order = turn_kept s cell st at is e o turn order
+
+  pub step_kept : (notes : List TableNote) (y : ServerRun) → RunStep IsAny IsAnyPair x notes y → InOrder texts (view_at subject y 0) → RunBehind texts subject taken y
+  step_kept notes y step order = (step_on notes y step order).kept

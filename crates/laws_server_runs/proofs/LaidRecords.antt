@@ -43,7 +43,7 @@ use Rattle.laws_loads.specs.RangeView.{RangeView, view_after, view_after_all, me
 use Rattle.laws_tables.proofs.Range.{newest, event_cases}
 use Rattle.laws_tables.specs.Runs.{Run, Serving, first_beginning, record_group, said, held, meta_of}
 use Rattle.laws_server_runs.specs.CheckpointInvariant.{HoldsPhase, HoldsCheckpoint, HasRecordOut, item_of, parts_of}
-use Rattle.laws_server_runs.specs.NamedIndexes.{NamesSuch}
+use Rattle.laws_server_runs.specs.NamedIndexes.{AreNamed}
 use Rattle.laws_server_runs.specs.Places.{IsLaid, AreWithin, PagesWithin, IndexesWithin, placed_of, IndexLaid, TableLaid, JobWithin, RangeLaid, IsQuiet}
 use Rattle.laws_server_runs.specs.RangeInvariant.{groups_read, IsRecord, IsCheckpointRecord, AreCheckpoints, ReadsLog, HasReadAll, PhaseIs, StageIs, RangeKept, StreamsKept, Serves}
 use Rattle.laws_server_runs.proofs.Folding.{IsFoldOf, groups_folded}
@@ -52,7 +52,7 @@ use Rattle.laws_server_runs.proofs.LaidBytes.{Covers, entries_on, pages_on}
 use Rattle.laws_server_runs.proofs.LaidLayers.{within_put, within_filter}
 use Rattle.laws_server_runs.proofs.LoadedLine.{reads_groups, groups_renamed}
 use Rattle.laws_server_runs.proofs.MetadataJobs.{some_out}
-use Rattle.laws_server_runs.proofs.NamedIndexes.{places_of, named_by_load}
+use Rattle.laws_server_runs.proofs.NamedIndexes.{named_by_load}
 use Rattle.laws_server_runs.proofs.ServedNotes.{serves_of}
 
 -- ---- records
@@ -60,9 +60,9 @@ use Rattle.laws_server_runs.proofs.ServedNotes.{serves_of}
 record_on : (Old New : Place → Type 0) → ((place : Place) → Old place → New place) → (group : Group) → IsCheckpointRecord Old group → IsCheckpointRecord New group
 record_on Old New on group c = record { number = c.number; combine = c.combine; index = c.index; position = c.position; next = c.next; spells = c.spells; fits = c.fits; holds = on c.index c.holds }
 
-any_record_on : (Old New : Place → Type 0) → ((place : Place) → Old place → New place) → (group : Group) → IsRecord Old group → IsRecord New group
+pub any_record_on : (Old New : Place → Type 0) → ((place : Place) → Old place → New place) → (group : Group) → IsRecord Old group → IsRecord New group
 any_record_on Old New on group (inl c) = inl (record_on Old New on group c)
-any_record_on Old New on group (inr s) = inr s
+any_record_on Old New on group (inr other) = inr other
 
 pub records_on : (Old New : Place → Type 0) → ((place : Place) → Old place → New place) → (story : Story Group) → AreCheckpoints Old story → AreCheckpoints New story
 records_on Old New on story all a g group at = any_record_on Old New on group (all a g group at)
@@ -158,7 +158,7 @@ module _ (texts : ℕ → Bytes) (subject : ℕ) (run : Run) (v : RangeView) (r 
   holds = held first_beginning run g
 
   -- while a record is out, it is that of an index that is laid so, where those are that the metadata names
-  pub record_laid : NamesSuch (IndexLaid texts (placed_of v)) r.said → (job : CheckpointState) (index : Place) → r.control ≡ Some job → job.phase ≡ checkpoints.Record index → (h : ℕ) (group : Group) →
+  pub record_laid : AreNamed (IndexLaid texts (placed_of v)) r.said.indexes → (job : CheckpointState) (index : Place) → r.control ≡ Some job → job.phase ≡ checkpoints.Record index → (h : ℕ) (group : Group) →
       event_at (metadata_of v) (v.history.append kinds.Metadata) ≡ Some (Made h group) → IsCheckpointRecord (IndexLaid texts (placed_of v)) group
   record_laid names job index is phase h group at = record {
     number = r.said.next;
@@ -196,7 +196,7 @@ module _ (texts : ℕ → Bytes) (subject : ℕ) (run : Run) (v : RangeView) (r 
           let equal : job.pages.index ≡ other = cc in
           let pages : PagesWithin (placed_of v) job.pages.index.pages = subst (JobWithin (placed_of v)) is laid.checkpoint.pages in
           let layer : AreWithin (placed_of v) fixed = subst (λ fixed. AreWithin (placed_of v) (entries_if fixed)) out.writes.noted.entries laid.checkpoint.layer in
-          let installed = installed_laid texts (placed_of v) r.indexes r.said.indexes serves.matches.installed (places_of (IndexLaid texts (placed_of v)) r.said.indexes names.indexes) in
+          let installed = installed_laid texts (placed_of v) r.indexes r.said.indexes serves.matches.installed names in
           let entries : AreWithin (placed_of v) (pages_in texts job.pages.index.pages) =
           subst (AreWithin (placed_of v)) (sym (pages_say texts job.pages.index.pages content written.entries_are written.pages))
           (written_within texts (placed_of v) job.combine r.said.keys r.indexes fixed installed.1 layer) in
@@ -243,9 +243,9 @@ module _ (texts : ℕ → Bytes) (subject : ℕ) (run : Run) (v : RangeView) (r 
   confirmed_laid order records q phase table indexes live =
       let all : HasReadAll texts v.history r = has_read texts run v r r.stage r.load.phase q phase kept.phase kept.stage in
       let e : StreamEvent Group = Showed r.load.generation 0 (place_number metadata_end) (placed_reads (v.history.reads kinds.Metadata)) in
-      let names : NamesSuch Holds r.said =
+      let names : AreNamed Holds r.said.indexes =
       named_by_load Holds (metadata_of shown) order records (length (metadata_of v)) r.load.generation 0 (place_number metadata_end) (placed_reads (v.history.reads kinds.Metadata))
       (newest Group e (metadata_of v)) r.said (said_read v r all.log) in
       table_laid texts (placed_of shown) table live
       (subst (λ (xs : List InstalledIndex). IndexesWithin (placed_of shown) xs × ContentsWithin texts (placed_of shown) xs) (sym indexes)
-      (installed_laid texts (placed_of shown) r.indexes r.said.indexes all.installed (places_of Holds r.said.indexes names.indexes)))
+      (installed_laid texts (placed_of shown) r.indexes r.said.indexes all.installed names))

@@ -242,9 +242,9 @@ module _ (x : ServerRun) (laid : RunLaid x) where
 
     effect_laid : (range : ℕ) (r : RangeState) → range_of st.ranges range ≡ Some r → (job : Option SplitJob) (e : RangeEffect) (o : RangeOutcome) (later : Option SplitJob) → IsEffect IsAnyPair range r job e o later →
         (next : ServerState) (packets : List Packet) → next.ranges ≡ set_range st.ranges range o.after → LeavesSplit st.splits range later next.splits → RunLaid (Then e (record { after = next; packets = packets; notes = o.notes }))
-    effect_laid range r held job e o later (Own own actions after left_job step) next packets left splits = acts x laid s cell st at is range r held job actions o later step next packets left splits
-    effect_laid range r held job e o later (None_done own after left_job step) next packets left splits = acts x laid s cell st at is range r held job [] o later step next packets left splits
-    effect_laid range r held job e o later (OfOthers split d body after left_job step) next packets left splits =
+    effect_laid range r held job e o later (Own own actions after left_job step unheard) next packets left splits = acts x laid s cell st at is range r held job actions o later step next packets left splits
+    effect_laid range r held job e o later (None_done own after left_job step unheard) next packets left splits = acts x laid s cell st at is range r held job [] o later step next packets left splits
+    effect_laid range r held job e o later (OfOthers split d body after left_job step heard) next packets left splits =
         subst (λ servers. RunLaid (with_outcome y (record { servers = slice_set servers (s - 1) (record cell { state = Some next }); packets = packets; notes = o.notes }))) rest
         (acts y (sides_laid s split.generation x laid sides (sides_append d r split body)) s cell st (subst (λ l. entry_at l s ≡ Some cell) (sym rest) at) is range r held (Some split) [] o later step next packets left splits)
       where

@@ -37,17 +37,17 @@ use Rattle.laws_server_runs.proofs.LaidStates.{both_quiet, formed_quiet, Left, l
 
 -- ---- observations
 
-notes_both : (k : ℕ) (shown : List PlacedBytes) (xs ys : List TableNote) → NotesWithin k shown xs → NotesWithin k shown ys → NotesWithin k shown (xs ++ ys)
-notes_both k shown [] ys a b = b
-notes_both k shown (x ∷ xs) ys a b = (a.0, notes_both k shown xs ys a.1 b)
+notes_both : (k g : ℕ) (shown : List PlacedBytes) (xs ys : List TableNote) → NotesWithin k g shown xs → NotesWithin k g shown ys → NotesWithin k g shown (xs ++ ys)
+notes_both k g shown [] ys a b = b
+notes_both k g shown (x ∷ xs) ys a b = (a.0, notes_both k g shown xs ys a.1 b)
 
-began_within : (k : ℕ) (shown : List PlacedBytes) (range g s : ℕ) (ts : List WaitingTransaction) → range ≡ k → NotesWithin k shown (began range g s ts)
-began_within k shown range g s [] is = tt
-began_within k shown range g s (t ∷ ts) is = (is, began_within k shown range g (suc s) ts is)
+began_within : (k g : ℕ) (shown : List PlacedBytes) (range generation s : ℕ) (ts : List WaitingTransaction) → range ≡ k → generation ≡ g → NotesWithin k g shown (began range generation s ts)
+began_within k g shown range generation s [] is under = tt
+began_within k g shown range generation s (t ∷ ts) is under = ((is, under), began_within k g shown range generation (suc s) ts is under)
 
-dones_within : (k : ℕ) (shown : List PlacedBytes) (range g s : ℕ) (ts : List WaitingTransaction) → range ≡ k → NotesWithin k shown (dones range g s ts)
-dones_within k shown range g s [] is = tt
-dones_within k shown range g s (t ∷ ts) is = (is, dones_within k shown range g (suc s) ts is)
+dones_within : (k g : ℕ) (shown : List PlacedBytes) (range generation s : ℕ) (ts : List WaitingTransaction) → range ≡ k → generation ≡ g → NotesWithin k g shown (dones range generation s ts)
+dones_within k g shown range generation s [] is under = tt
+dones_within k g shown range generation s (t ∷ ts) is under = ((is, under), dones_within k g shown range generation (suc s) ts is under)
 
 -- none shows a table
 module _ (Is : ShownTable → Type 0) where
@@ -60,8 +60,9 @@ module _ (Is : ShownTable → Type 0) where
   dones_none range g s (t ∷ ts) notes rest = dones_none range g (suc s) ts notes rest
 
 -- a state that is served
-pub record IsServed (k : ℕ) (placed : List PlacedBytes) (s : RangeState) : Type 0 where
+pub record IsServed (k g : ℕ) (placed : List PlacedBytes) (s : RangeState) : Type 0 where
   pub range : s.load.range ≡ k
+  pub generation : s.load.generation ≡ g
   pub serving : is_serving s.stage ≡ true
   pub confirmed : s.load.phase ≡ phases.Confirmed
   pub live : AreWithin placed s.live
@@ -69,34 +70,34 @@ pub record IsServed (k : ℕ) (placed : List PlacedBytes) (s : RangeState) : Typ
   pub sound : IsSound s
   pub checkpoint : CheckpointLaid placed s.rows s.fixed s.control
 
-abbrev pub IsServedIf : ℕ → List PlacedBytes → Option RangeState → Type 0
-IsServedIf k placed None = Unit {0}
-IsServedIf k placed (Some s) = IsServed k placed s
+abbrev pub IsServedIf : ℕ → ℕ → List PlacedBytes → Option RangeState → Type 0
+IsServedIf k g placed None = Unit {0}
+IsServedIf k g placed (Some s) = IsServed k g placed s
 
-module _ (k : ℕ) (placed : List PlacedBytes) (Is : ShownTable → Type 0) (d : ServerContext) where
+module _ (k g : ℕ) (placed : List PlacedBytes) (Is : ShownTable → Type 0) (d : ServerContext) where
   -- a step of a range that is served
   pub record ServesOn (o : RangeOutcome) : Type 0 where
     pub there : is_some o.after ≡ true
-    pub after : IsServedIf k placed o.after
-    pub notes : (shown : List PlacedBytes) → NotesWithin k shown o.notes
+    pub after : IsServedIf k g placed o.after
+    pub notes : (shown : List PlacedBytes) → NotesWithin k g shown o.notes
     pub tables : TablesAre Is o.notes
 
-  pub calm_on : (s : RangeState) → IsServed k placed s → (packets : List Packet) → ServesOn (goes d s packets [])
+  pub calm_on : (s : RangeState) → IsServed k g placed s → (packets : List Packet) → ServesOn (goes d s packets [])
   calm_on s b packets = record { there = refl; after = b; notes = λ shown. tt; tables = tt }
 
-  forms_on : (s : RangeState) → IsServed k placed s → ServesOn (forms d s)
+  forms_on : (s : RangeState) → IsServed k g placed s → ServesOn (forms d s)
   forms_on s b =
       if_elim ServesOn (not (is_some s.out) && (nat_lt 0 (group_count d s) && nat_lt (s.next + group_count d s) (2 ^ 64))) (appending d s (group_count d s)) (goes d s [] [])
       (λ t. record {
         there = refl;
-        after = record { range = b.range; serving = b.serving; confirmed = b.confirmed; live = b.live; low = b.low; sound = appends_sound d s (group_count d s) b.sound (is_next d s b.sound t); checkpoint = b.checkpoint };
-        notes = λ shown. began_within k shown s.load.range s.load.generation s.next _ b.range;
+        after = record { range = b.range; generation = b.generation; serving = b.serving; confirmed = b.confirmed; live = b.live; low = b.low; sound = appends_sound d s (group_count d s) b.sound (is_next d s b.sound t); checkpoint = b.checkpoint };
+        notes = λ shown. began_within k g shown s.load.range s.load.generation s.next _ b.range b.generation;
         tables = began_none Is s.load.range s.load.generation s.next (take (group_count d s) s.queue);
       })
       (λ f. calm_on s b [])
 
   -- the group stands, and its values with it
-  pub applies_on : (s : RangeState) → IsServed k placed s → (out : OutGroup) (extent offset : ℕ) → AreWithin placed (flat_map (λ changes. changes) (kept (record_of out.first out.transactions) extent offset)) →
+  pub applies_on : (s : RangeState) → IsServed k g placed s → (out : OutGroup) (extent offset : ℕ) → AreWithin placed (flat_map (λ changes. changes) (kept (record_of out.first out.transactions) extent offset)) →
       s.out ≡ Some out → offset + out_size out < 2 ^ 32 → ServesOn (applies d s out extent offset)
   applies_on s b out extent offset values is room =
       let after : RangeState =
@@ -109,6 +110,7 @@ module _ (k : ℕ) (placed : List PlacedBytes) (Is : ShownTable → Type 0) (d :
       let f : ServesOn (forms d after) =
       forms_on after (record {
         range = b.range;
+        generation = b.generation;
         serving = b.serving;
         confirmed = b.confirmed;
         live = within_put placed s.live (flat_map (λ changes. changes) (kept (record_of out.first out.transactions) extent offset)) b.live values;
@@ -119,18 +121,18 @@ module _ (k : ℕ) (placed : List PlacedBytes) (Is : ShownTable → Type 0) (d :
       record {
         there = f.there;
         after = f.after;
-        notes = λ shown. notes_both k shown (dones s.load.range s.load.generation out.first out.transactions) _ (dones_within k shown s.load.range s.load.generation out.first out.transactions b.range) (f.notes shown);
+        notes = λ shown. notes_both k g shown (dones s.load.range s.load.generation out.first out.transactions) _ (dones_within k g shown s.load.range s.load.generation out.first out.transactions b.range b.generation) (f.notes shown);
         tables = dones_none Is s.load.range s.load.generation out.first out.transactions _ f.tables;
       }
 
-  pub queued_on : (s : RangeState) → IsServed k placed s → ServesOn (forms d s)
+  pub queued_on : (s : RangeState) → IsServed k g placed s → ServesOn (forms d s)
   queued_on s b = forms_on s b
 
 module _ (k : ℕ) (v : RangeView) (r : RangeState) (before : RangeLaid k v r) (d : ServerContext) where
   abbrev placed : List StreamAction → List PlacedBytes
   placed actions = placed_of (view_after_all r.load.generation v actions)
 
-  served_laid : (w : RangeView) (s : RangeState) → IsServed k (placed_of w) s → RangeLaid k w s
+  served_laid : (w : RangeView) (s : RangeState) → IsServed k r.load.generation (placed_of w) s → RangeLaid k w s
   served_laid w s b = record {
     range = b.range;
     confirmed = λ e. b.confirmed;
@@ -142,9 +144,10 @@ module _ (k : ℕ) (v : RangeView) (r : RangeState) (before : RangeLaid k v r) (
   }
 
   -- it was served before
-  is_served : (actions : List StreamAction) → is_serving r.stage ≡ true → IsServed k (placed actions) r
+  is_served : (actions : List StreamAction) → is_serving r.stage ≡ true → IsServed k r.load.generation (placed actions) r
   is_served actions e = record {
     range = before.range;
+    generation = refl;
     serving = e;
     confirmed = before.confirmed e;
     live = entries_on (placed_of v) (placed actions) (actions_cover r.load.generation v actions) r.live (before.live e);
@@ -153,18 +156,18 @@ module _ (k : ℕ) (v : RangeView) (r : RangeState) (before : RangeLaid k v r) (
     checkpoint = checkpoint_on (placed_of v) (placed actions) (actions_cover r.load.generation v actions) r.rows r.fixed r.control before.checkpoint;
   }
 
-  serves_on : (actions : List StreamAction) (o : RangeOutcome) → IsQuiet actions → ServesOn k (placed actions) (IsConfirmed r actions) d o → RuleLaid k v r actions o
+  serves_on : (actions : List StreamAction) (o : RangeOutcome) → IsQuiet actions → ServesOn k r.load.generation (placed actions) (IsConfirmed r actions) d o → RuleLaid k v r actions o
   serves_on actions o quiet s = record {
     step = record { after = go o.after s.after; notes = s.notes (view_after_all r.load.generation v actions).shown };
     forms = Quiet actions quiet;
     tables = s.tables;
   }
     where
-      go : (a : Option RangeState) → IsServedIf k (placed actions) a → RangeLaidIf k (view_after_all r.load.generation v actions) a
+      go : (a : Option RangeState) → IsServedIf k r.load.generation (placed actions) a → RangeLaidIf k (view_after_all r.load.generation v actions) a
       go None b = tt
       go (Some z) b = served_laid (view_after_all r.load.generation v actions) z b
 
-  serves_left : (actions : List StreamAction) (o : RangeOutcome) → IsQuiet actions → ServesOn k (placed actions) (IsConfirmed r actions) d o → Left k v r actions o
+  serves_left : (actions : List StreamAction) (o : RangeOutcome) → IsQuiet actions → ServesOn k r.load.generation (placed actions) (IsConfirmed r actions) d o → Left k v r actions o
   serves_left actions o quiet s = subst (λ b. RuleLaid k v r (if b then actions else []) o) (sym s.there) (serves_on actions o quiet s)
 
   -- ---- news of the log
@@ -184,14 +187,14 @@ module _ (k : ℕ) (v : RangeView) (r : RangeState) (before : RangeLaid k v r) (
 
     calm_left : (sent : List Packet) → Left k v r [] (goes d now sent [])
     calm_left sent =
-        let b : IsServed k (placed_of v) r = is_served [] serving in
-        serves_left [] (goes d now sent []) tt (calm_on k (placed_of v) (IsConfirmed r []) d now (record { range = b.range; serving = b.serving; confirmed = b.confirmed; live = b.live; low = b.low; sound = b.sound; checkpoint = b.checkpoint }) sent)
+        let b : IsServed k r.load.generation (placed_of v) r = is_served [] serving in
+        serves_left [] (goes d now sent []) tt (calm_on k r.load.generation (placed_of v) (IsConfirmed r []) d now (record { range = b.range; generation = b.generation; serving = b.serving; confirmed = b.confirmed; live = b.live; low = b.low; sound = b.sound; checkpoint = b.checkpoint }) sent)
 
     done_left : (out : Option OutGroup) → r.out ≡ out → (e offset : ℕ) → RoomFor out offset → Left k v r (stood r out e offset (log_done d now out e offset)) (log_done d now out e offset)
     done_left None is e offset room = calm_left []
     done_left (Some out) is e offset room =
         serves_left (formed o.after ++ stands) o (both_quiet (formed o.after) stands (formed_quiet o.after) tt)
-        (applies_on k (placed (formed o.after ++ stands)) (IsConfirmed r (formed o.after ++ stands)) d now (record { range = b.range; serving = b.serving; confirmed = b.confirmed; live = b.live; low = b.low; sound = b.sound; checkpoint = b.checkpoint }) out e offset
+        (applies_on k r.load.generation (placed (formed o.after ++ stands)) (IsConfirmed r (formed o.after ++ stands)) d now (record { range = b.range; generation = b.generation; serving = b.serving; confirmed = b.confirmed; live = b.live; low = b.low; sound = b.sound; checkpoint = b.checkpoint }) out e offset
         (spelled_within (placed (formed o.after ++ stands)) one on (record_of out.first out.transactions) refl) is room)
       where
         o : RangeOutcome
@@ -206,7 +209,7 @@ module _ (k : ℕ) (v : RangeView) (r : RangeState) (before : RangeLaid k v r) (
         on : Covers (one ∷ []) (placed (formed o.after ++ stands))
         on place w = later_cover r.load.generation v (formed o.after) stands place (within_behind v.shown (one ∷ v.answered) place (within_front v.answered (one ∷ []) place w))
 
-        b : IsServed k (placed (formed o.after ++ stands)) r
+        b : IsServed k r.load.generation (placed (formed o.after ++ stands)) r
         b = is_served (formed o.after ++ stands) serving
 
     pub serving_left : (told : Option News) → RoomIf r.out told → Left k v r (serving_actions r told (serving_news d now told packets)) (serving_news d now told packets)
@@ -231,7 +234,7 @@ module _ (k : ℕ) (v : RangeView) (r : RangeState) (before : RangeLaid k v r) (
       no_group : (x : Option OutGroup) → (if is_some x then [] else map (λ out. Forms kinds.Log (group_of out)) (if_there x)) ≡ []
       no_group None = refl
       no_group (Some out) = refl
-  transacts_laid from q changes None e = serves_on actions o quiet (queued_on k (placed actions) (IsConfirmed r actions) d (record r { queue = r.queue ++ record { from = from; request = q; changes = changes } ∷ [] }) served)
+  transacts_laid from q changes None e = serves_on actions o quiet (queued_on k r.load.generation (placed actions) (IsConfirmed r actions) d (record r { queue = r.queue ++ record { from = from; request = q; changes = changes } ∷ [] }) served)
     where
       o : RangeOutcome
       o = transacts d r from q changes None
@@ -242,10 +245,10 @@ module _ (k : ℕ) (v : RangeView) (r : RangeState) (before : RangeLaid k v r) (
       quiet : IsQuiet actions
       quiet = if_elim IsQuiet (is_some r.out) [] (formed o.after) (λ t. tt) (λ f. formed_quiet o.after)
 
-      served : IsServed k (placed actions) (record r { queue = r.queue ++ record { from = from; request = q; changes = changes } ∷ [] })
+      served : IsServed k r.load.generation (placed actions) (record r { queue = r.queue ++ record { from = from; request = q; changes = changes } ∷ [] })
       served =
-          let b : IsServed k (placed actions) r = is_served actions (taken_served d r changes e) in
-          record { range = b.range; serving = b.serving; confirmed = b.confirmed; live = b.live; low = b.low; sound = pushed_sound d r from q changes e b.sound; checkpoint = b.checkpoint }
+          let b : IsServed k r.load.generation (placed actions) r = is_served actions (taken_served d r changes e) in
+          record { range = b.range; generation = b.generation; serving = b.serving; confirmed = b.confirmed; live = b.live; low = b.low; sound = pushed_sound d r from q changes e b.sound; checkpoint = b.checkpoint }
 
   pub transact_laid : (from : ActorId) (q : ReqNo) (changes : List Change) → RuleLaid k v r (transact_actions r (transact_rule d r from q changes)) (transact_rule d r from q changes)
   transact_laid from q changes = transacts_laid from q changes (transact_fault d r changes) refl

@@ -113,7 +113,7 @@ module _ (d : ServerContext) (r : RangeState) (job : SplitJob) where
   follow_in_appends (phases.Keys side c) = tt
   follow_in_appends (phases.Complete q) = tt
 
-  follow_appends : AppendRecords (follow_actions d r job)
+  pub follow_appends : AppendRecords (follow_actions d r job)
   follow_appends = if_elim AppendRecords (has_number d) _ _ (λ t. follow_in_appends job.phase) (λ f. tt)
 
   stood_in_appends : (phase : SplitPhase) (said : Option News) → AppendRecords (split_stood_in r job phase said)
@@ -138,7 +138,7 @@ module _ (d : ServerContext) (r : RangeState) (job : SplitJob) where
       (λ f. if_elim AppendRecords (awaits r.metadata.job w) _ _
       (λ t. if_elim AppendRecords (is_serving r.stage) _ _ (λ serving. stood_in_appends job.phase (reply_rule (picking d r.metadata) (request d) body).news) (λ f. tt)) (λ f. tt))) (λ f. tt)
 
-stood_by_appends : (r : RangeState) (job : SplitJob) {actions : List StreamAction} {o : RangeOutcome} (rule : IsRule r actions o) → AppendRecords (stood_by job rule)
+pub stood_by_appends : (r : RangeState) (job : SplitJob) {actions : List StreamAction} {o : RangeOutcome} (rule : IsRule r actions o) → AppendRecords (stood_by job rule)
 stood_by_appends r job (Answers d w body) = stood_appends d r job w body (answer_rule d r w body)
 stood_by_appends r job (Transacts d from q changes) = tt
 stood_by_appends r job (Gets d from q key) = tt
@@ -319,7 +319,7 @@ module _ (k : ℕ) (v : RangeView) (r : RangeState) (before : RangeLaid k v r) w
       subst (λ (l : List StreamAction). StepLaid k v g l (with_split o (follows d next job))) (assoc (follow_actions d next job) (stood_by job rule) actions)
       (record {
         after = follows_laid k (view_after_all g v (more ++ actions)) d next (records_on more actions appends next own) job;
-        notes = subst (λ shown. NotesWithin k shown o.notes) (sym (notes_on more actions appends)) step.notes;
+        notes = subst (λ shown. NotesWithin k g shown o.notes) (sym (notes_on more actions appends)) step.notes;
       })
     where
       step : StepLaid k v g actions o
@@ -342,7 +342,7 @@ module _ (k : ℕ) (v : RangeView) (r : RangeState) (before : RangeLaid k v r) w
   -- whatever it does
   pub laid_step : (IsNumbered : (low high : ℕ) → Type 0) (job : Option SplitJob) (actions : List StreamAction) (o : RangeOutcome) (later : Option SplitJob) → IsStep IsNumbered r job actions o later → StepLaid k v g actions o
   laid_step IsNumbered job actions o later (Alone own_actions own rule) = rule_laid k v r before own_actions own rule
-  laid_step IsNumbered job actions o later (BeginsSplit d key may none) = record { after = before; notes = tt }
+  laid_step IsNumbered job actions o later (BeginsSplit d key may none splits) = record { after = before; notes = tt }
   laid_step IsNumbered job actions o later (Drops split own_actions own rule calm gone) = rule_laid k v r before own_actions own rule
   laid_step IsNumbered job actions o later (Follows split own_actions own rule calm room d counts next left) = followed_laid split own_actions own rule d next left
   laid_step IsNumbered job actions o later (Leaves split c d next left) = given_up_laid split c d next left

@@ -406,7 +406,7 @@ module _ (k : ℕ) (v : RangeView) (r : RangeState) (before : RangeLaid k v r) (
                 sound = record { queue_fits = tt; out_fits = tt; counted = omega arith; numbered = (let less : 0 < region.next = ltb-true 0 region.next t in omega (arith, less)) };
                 checkpoint = still_checkpoint k v r before shows;
               };
-              notes = ((before.range, layer), tt);
+              notes = ((before.range, refl, layer), tt);
             };
             forms = Quiet shows tt;
             tables = (record { request = q; phase = is; indexes = refl; keys = refl; start = _; log_end = _; metadata_end = _; shows = refl }, tt);

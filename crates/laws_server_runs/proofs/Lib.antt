@@ -1,9 +1,15 @@
 pub mod Fronts
+mod ConfirmedLoads
 pub mod Steps
 pub mod Loads
 pub mod LoadsSteps
 pub mod BuiltStreams
 pub mod FamilyRanges
+mod AnsweredGroups
+pub mod FamilyParents
+mod NamedKeys
+pub mod HeldKeys
+pub mod FamilyMembers
 pub mod LoadsAnswers
 pub mod LoadsAnswered
 pub mod ConfirmedLoad
@@ -16,6 +22,26 @@ mod LoadedRecords
 mod RowAppends
 mod MetadataJobs
 pub mod ServingStays
+mod StaysServed
+mod KeysRecords
+mod SplitJobs
+mod TurnChanges
+pub mod SplitsSince
+pub mod SplitsBack
+pub mod CompletedSplits
+pub mod CompletedMoments
+pub mod Eldest
+pub mod SplitsReplay
+mod ChildMoves
+mod NamesBehind
+mod ChildTold
+mod ChildHeard
+pub mod ChildSteps
+pub mod SplitsHeld
+mod PausedSplits
+mod ClosedRanges
+mod FormedGroups
+mod ClosedStories
 pub mod SplitMore
 pub mod SplitTurns
 mod IndexOrder
@@ -33,6 +59,7 @@ mod CheckpointStreams
 mod CheckpointSteps
 mod CheckpointReplies
 mod CheckpointKept
+mod OutsideKeys
 mod LoadedRows
 mod ServedLine
 pub mod HeldLine
@@ -46,7 +73,13 @@ pub mod ServedStands
 pub mod Served
 pub mod Rules
 pub mod Apart
+mod RecordKinds
+mod KeptKeys
 pub mod Theorem
+mod PausedRuns
+pub mod ChildTheorem
+pub mod ChildStands
+pub mod StoodRanges
 pub mod Worked
 pub mod Unconfirmed
 pub mod NeededPremises
@@ -73,9 +106,13 @@ mod LaidSplits
 mod SideActions
 mod HeldRecords
 mod LaidRecords
+mod SideRecords
+mod StepRules
 mod LaidTables
+pub mod UntouchedRanges
 pub mod LoadedWithin
 pub mod OwnNotes
+pub mod NotedRanges
 pub mod Beside
 pub mod Kept
 pub mod FirstAlone
@@ -84,4 +121,5 @@ pub mod OneRegion
 pub mod WorkedRanges
 pub mod WorkedSplits
 mod WorkedChildren
+mod WorkedBirths
 pub mod CheckpointActions

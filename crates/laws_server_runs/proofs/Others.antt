@@ -68,7 +68,6 @@ module _ (texts : ℕ → Bytes) where
     log = k.log ∙ ap (renamed decoded) (sym log);
     metadata = k.metadata ∙ ap (renamed decoded_record) (sym metadata);
     chain = k.chain;
-    keys = k.keys;
     spelled = subst (λ (z : Story Group). AllSpelled texts z) (sym log) k.spelled;
     records = subst (λ (z : Story Group). AreCheckpoints (IsOfPages texts) z) (sym metadata) k.records;
   }

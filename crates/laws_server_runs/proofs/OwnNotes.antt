@@ -20,23 +20,23 @@ only_both k (x ∷ xs) ys = go (is_of k x) (only_both k xs ys)
 
 module _ (texts : ℕ → Bytes) (placed : List PlacedBytes) where
   -- whose observation it is
-  seen_of : (j k : ℕ) (told : TableNote) (note : Note) → NoteWithin j placed told → IsSeenAs texts told note → is_of k note ≡ (k == j)
-  seen_of j k (tables.Began range generation number changes) note within seen = ap (is_of k) seen ∙ ap (λ n. k == n) within
-  seen_of j k (tables.Done range generation number) note within seen = ap (is_of k) seen ∙ ap (λ n. k == n) within
-  seen_of j k (tables.Loaded range generation table next) note within seen = ap (is_of k) seen.1 ∙ ap (λ n. k == n) within.0
+  seen_of : (j g k : ℕ) (told : TableNote) (note : Note) → NoteWithin j g placed told → IsSeenAs texts told note → is_of k note ≡ (k == j)
+  seen_of j g k (tables.Began range generation number changes) note within seen = ap (is_of k) seen ∙ ap (λ n. k == n) within.0
+  seen_of j g k (tables.Done range generation number) note within seen = ap (is_of k) seen ∙ ap (λ n. k == n) within.0
+  seen_of j g k (tables.Loaded range generation table next) note within seen = ap (is_of k) seen.1 ∙ ap (λ n. k == n) within.0
 
   -- all that is seen of observations of the range
-  pub own_notes : (k : ℕ) (told : List TableNote) (notes : List Note) → NotesWithin k placed told → AreSeenAs texts told notes → only k notes ≡ notes
-  own_notes k [] [] within seen = refl
-  own_notes k [] (note ∷ notes) within seen = absurd seen
-  own_notes k (t ∷ told) [] within seen = absurd seen
-  own_notes k (t ∷ told) (note ∷ notes) within seen =
-      ap (λ b. if b then note ∷ only k notes else only k notes) (seen_of k k t note within.0 seen.0 ∙ same_test k) ∙ ap (λ l. note ∷ l) (own_notes k told notes within.1 seen.1)
+  pub own_notes : (k g : ℕ) (told : List TableNote) (notes : List Note) → NotesWithin k g placed told → AreSeenAs texts told notes → only k notes ≡ notes
+  own_notes k g [] [] within seen = refl
+  own_notes k g [] (note ∷ notes) within seen = absurd seen
+  own_notes k g (t ∷ told) [] within seen = absurd seen
+  own_notes k g (t ∷ told) (note ∷ notes) within seen =
+      ap (λ b. if b then note ∷ only k notes else only k notes) (seen_of k g k t note within.0 seen.0 ∙ same_test k) ∙ ap (λ l. note ∷ l) (own_notes k g told notes within.1 seen.1)
 
   -- and nothing of those of another
-  pub other_notes : (j k : ℕ) → (k ≡ j → ⊥) → (told : List TableNote) (notes : List Note) → NotesWithin j placed told → AreSeenAs texts told notes → only k notes ≡ []
-  other_notes j k apart [] [] within seen = refl
-  other_notes j k apart [] (note ∷ notes) within seen = absurd seen
-  other_notes j k apart (t ∷ told) [] within seen = absurd seen
-  other_notes j k apart (t ∷ told) (note ∷ notes) within seen =
-      ap (λ b. if b then note ∷ only k notes else only k notes) (seen_of j k t note within.0 seen.0 ∙ other_test k j apart) ∙ other_notes j k apart told notes within.1 seen.1
+  pub other_notes : (j g k : ℕ) → (k ≡ j → ⊥) → (told : List TableNote) (notes : List Note) → NotesWithin j g placed told → AreSeenAs texts told notes → only k notes ≡ []
+  other_notes j g k apart [] [] within seen = refl
+  other_notes j g k apart [] (note ∷ notes) within seen = absurd seen
+  other_notes j g k apart (t ∷ told) [] within seen = absurd seen
+  other_notes j g k apart (t ∷ told) (note ∷ notes) within seen =
+      ap (λ b. if b then note ∷ only k notes else only k notes) (seen_of j g k t note within.0 seen.0 ∙ other_test k j apart) ∙ other_notes j g k apart told notes within.1 seen.1

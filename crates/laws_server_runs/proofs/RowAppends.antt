@@ -83,6 +83,10 @@ idle_gives_up c q pick idle = subst (λ j. (give_up_job (record c { pick = pick 
 pub give_up_appends : (c : ClientState) (q : ReqNo) (pick : Nodes) (control : Option CheckpointState) → AppendsRows c control → AppendsRows (give_up_rule c q pick).after control
 give_up_appends c q pick control a = appends_left c (give_up_rule c q pick).after (inr (group_given_up (record c { pick = pick }) q c.job)) (idle_gives_up c q pick) control a
 
+-- of whatever group
+pub appends_given_up : (c : ClientState) (q : ReqNo) (pick : Nodes) (group : List (List ℕ)) → Appends c group → Appends (give_up_rule c q pick).after group
+appends_given_up c q pick group a = appends_on c (give_up_rule c q pick).after (inr (group_given_up (record c { pick = pick }) q c.job)) (idle_gives_up c q pick) group a
+
 -- ---- an append begins
 
 -- the group that is appended
@@ -175,6 +179,9 @@ module _ (c : ClientState) (q : ReqNo) where
 
   pub reply_appends : (body : Body) (control : Option CheckpointState) → AppendsRows c control → AppendsRows (reply_rule c q body).after control
   reply_appends body control a = appends_left c (reply_rule c q body).after (reply_leaves body) (λ idle. ap (λ (o : Outcome). o.after.job) (idle_waits idle body) ∙ idle) control a
+
+  pub appends_replied : (body : Body) (group : List (List ℕ)) → Appends c group → Appends (reply_rule c q body).after group
+  appends_replied body group a = appends_on c (reply_rule c q body).after (reply_leaves body) (λ idle. ap (λ (o : Outcome). o.after.job) (idle_waits idle body) ∙ idle) group a
 
 -- ---- the next append
 

@@ -34,7 +34,7 @@ use Rattle.model_partition.specs.Servers.{ServerCell, cell_rests, cell_takes, ce
 use Rattle.model_histories.specs.StreamActions.{StreamAction, transact_actions, answer_actions, split_answered, split_stood, follow_actions, followed_actions, split_sides}
 use Rattle.model_histories.specs.ServerRun.{ServerRun, RangeEffect, Begins, Does, Tells, Rests as RestsSo, ServerEvent, Takes, GivesUp, Checkpoints, Splits, Stops, Starts, Moment, Builds, with_effect, with_outcome, after_event, told_effect, map_effect, transact_effect, follow_effect, get_effect, table_effect, answer_effect, split_effect_in, split_effect, awaited_effect, numbered_effect, packet_effect, server_effect, cell_effect}
 use Rattle.laws_loads.proofs.Entries.{entry_set, entry_other, entry_unmapped}
-use Rattle.laws_server_runs.specs.Turns.{IsRule, Transacts, Answers, Gets, Yields, Checkpoints as BeginsCheckpoint, Renews, IsCalm, HasRoom, stood_by, with_split, of_split, IsStep, Alone, BeginsSplit, Drops, Follows, Leaves, Holds, Hears, IsEffect, Own, None_done, OfOthers, Turn, Idles, Opens, Acts, outcome_of, IsOfServers, HoldNoMore, RunStep, Keeps, Passes, Turns}
+use Rattle.laws_server_runs.specs.Turns.{IsRule, Transacts, Answers, Gets, Yields, Checkpoints as BeginsCheckpoint, Renews, IsCalm, HasRoom, stood_by, with_split, of_split, Alone, BeginsSplit, Drops, Follows, Leaves, Holds, Hears, IsEffect, Own, None_done, OfOthers, Turn, Idles, Opens, Acts, outcome_of, IsOfServers, HoldNoMore, RunStep, Keeps, Passes, Turns}
 use Rattle.laws_server_runs.proofs.StatesKept.{opened}
 use Rattle.laws_server_runs.proofs.Unmerged.{HasNoMerge, HaveNoMerges, stepped_unmerged, given_up_unmerged, assigned_unmerged, answer_unmerged, unawaited_merge, jobs_unmerged}
 use Rattle.laws_server_runs.proofs.Unsplit.{not_refused}
@@ -164,16 +164,17 @@ module _ (IsAssigned : ℕ → Type 0) (IsNumbered : (low high : ℕ) → Type 0
         subst (λ (l : List StreamAction). TurnOf (Does range r.load.generation (l ++ actions)) (ended_with st range o)) (sym none)
         (Acts range r held (Does range r.load.generation actions) (record o { after = None }) None
         (subst (λ j. IsEffect IsNumbered range r j (Does range r.load.generation actions) (record o { after = None }) None) (sym is)
-        (Own (Some job) actions (record o { after = None }) None (dropped left)))
+        (dropped left))
         (ended_with st range o).after o.packets refl (inr refl))
       where
-        dropped : o.after ≡ None → IsStep IsNumbered r (Some job) actions (record o { after = None }) None
-        dropped gone = subst (λ x. IsStep IsNumbered r (Some job) actions (record o { after = x }) None) gone (Drops job actions o rule calm gone)
+        dropped : o.after ≡ None → IsEffect IsNumbered range r (Some job) (Does range r.load.generation actions) (record o { after = None }) None
+        dropped gone =
+            subst (λ x. IsEffect IsNumbered range r (Some job) (Does range r.load.generation actions) (record o { after = x }) None) gone (Own (Some job) actions o None (Drops job actions o rule calm gone) tt)
     split_turn calm room job is stood none some (Some z) left =
         subst (λ (l : List StreamAction). TurnOf (Does range r.load.generation (follow_actions d z job ++ (l ++ actions))) (stepped_splitting st range job o (Some z))) (sym (some z left))
         (Acts range r held (Does range r.load.generation all) (with_split o t) t.job
         (subst (λ j. IsEffect IsNumbered range r j (Does range r.load.generation all) (with_split o t) t.job) (sym is)
-        (Own (Some job) all (with_split o t) t.job (Follows job actions o rule calm room d refl z left)))
+        (Own (Some job) all (with_split o t) t.job (Follows job actions o rule calm room d refl z left) tt))
         (stepped_splitting st range job o (Some z)).after (o.packets ++ t.packets) refl (inr refl))
       where
         d : ServerContext
@@ -198,7 +199,7 @@ module _ (IsAssigned : ℕ → Type 0) (IsNumbered : (low high : ℕ) → Type 0
           TurnOf (Does range r.load.generation (followed_actions (counted st.context o) job o.after ++ transact_actions r o)) (stepped_with st range job o)
       by None is =
           alone_turn range r held (transact_actions r o) o (Transacts st.context p.from q changes) is (Does range r.load.generation (transact_actions r o))
-          (Own None (transact_actions r o) o None (Alone (transact_actions r o) o (Transacts st.context p.from q changes)))
+          (Own None (transact_actions r o) o None (Alone (transact_actions r o) o (Transacts st.context p.from q changes)) tt)
       by (Some job) is = split_turn range r held (transact_actions r o) o (Transacts st.context p.from q changes) tt tt job is (λ a. []) refl (λ z left. refl) o.after refl
 
   get_turn : (p : Packet) (range : ℕ) (key : List ℕ) (q : ReqNo) (known : Option RangeState) → range_of st.ranges range ≡ known → TurnOf (get_effect st p range key q known) (gets_in st p range key q known)
@@ -209,7 +210,7 @@ module _ (IsAssigned : ℕ → Type 0) (IsNumbered : (low high : ℕ) → Type 0
       o = get_rule st.context r p.from q key
 
       by : (job : Option SplitJob) → split_of st.splits range ≡ job → TurnOf (follow_effect st range r job o) (stepped_with st range job o)
-      by None is = alone_turn range r held [] o (Gets st.context p.from q key) is RestsSo (None_done None o None (Alone [] o (Gets st.context p.from q key)))
+      by None is = alone_turn range r held [] o (Gets st.context p.from q key) is RestsSo (None_done None o None (Alone [] o (Gets st.context p.from q key)) tt)
       by (Some job) is =
           subst (λ l. TurnOf (Does range r.load.generation l) (stepped_with st range (Some job) o)) (append-nil (followed_actions (counted st.context o) (Some job) o.after))
           (split_turn range r held [] o (Gets st.context p.from q key) tt tt job is (λ a. []) refl (λ z left. refl) o.after refl)
@@ -246,9 +247,9 @@ module _ (IsAssigned : ℕ → Type 0) (IsNumbered : (low high : ℕ) → Type 0
       after = record st { ranges = set_range st.ranges range (Some (record r { until = max r.until until })) }
 
       by : (job : Option SplitJob) → split_of st.splits range ≡ job → TurnOf RestsSo (record { after = after; packets = []; notes = [] })
-      by None is = Acts range r held RestsSo o None (subst (λ j. IsEffect IsNumbered range r j RestsSo o None) (sym is) (None_done None o None (Alone [] o (Renews (max r.until until) 0)))) after [] refl (inl (refl, is))
+      by None is = Acts range r held RestsSo o None (subst (λ j. IsEffect IsNumbered range r j RestsSo o None) (sym is) (None_done None o None (Alone [] o (Renews (max r.until until) 0)) tt)) after [] refl (inl (refl, is))
       by (Some job) is =
-          Acts range r held RestsSo o (Some job) (subst (λ j. IsEffect IsNumbered range r j RestsSo o (Some job)) (sym is) (None_done (Some job) o (Some job) (Holds job (max r.until until) 0))) after [] refl (inl (refl, is))
+          Acts range r held RestsSo o (Some job) (subst (λ j. IsEffect IsNumbered range r j RestsSo o (Some job)) (sym is) (None_done (Some job) o (Some job) (Holds job (max r.until until) 0) tt)) after [] refl (inl (refl, is))
 
       go : (b : Bool) → TurnOf RestsSo (if b then record { after = after; packets = []; notes = [] } else rests st)
       go true = by (split_of st.splits range) refl
@@ -281,7 +282,7 @@ module _ (IsAssigned : ℕ → Type 0) (IsNumbered : (low high : ℕ) → Type 0
       by : (job : Option SplitJob) → split_of st.splits range ≡ job →
           TurnOf (Does range r.load.generation (followed_actions (counted st.context o) job o.after ++ (split_stood st.context r job w p.body o ++ actions))) (stepped_with st range job o)
       by None is =
-          alone_turn range r held actions o (Answers st.context w p.body) is (Does range r.load.generation actions) (Own None actions o None (Alone actions o (Answers st.context w p.body)))
+          alone_turn range r held actions o (Answers st.context w p.body) is (Does range r.load.generation actions) (Own None actions o None (Alone actions o (Answers st.context w p.body)) tt)
       by (Some job) is =
           split_turn range r held actions o (Answers st.context w p.body) tt room job is (λ a. if is_some a then split_answered st.context r job w p.body else []) refl
           (λ z left. ap (λ a. if is_some a then split_answered st.context r job w p.body else []) (sym left)) o.after refl
@@ -294,7 +295,7 @@ module _ (IsAssigned : ℕ → Type 0) (IsNumbered : (low high : ℕ) → Type 0
   split_in_turn p numbered range (Some r) held (Some job) is =
       Acts range r held (Tells job.generation (split_sides st.context r job p.body)) (of_split t) t.job
       (subst (λ j. IsEffect IsNumbered range r j (Tells job.generation (split_sides st.context r job p.body)) (of_split t) t.job) (sym is)
-      (OfOthers job st.context p.body (of_split t) t.job (Hears job st.context p.body numbered)))
+      (OfOthers job st.context p.body (of_split t) t.job (Hears job st.context p.body numbered) (refl, refl)))
       (split_stepped st range t).after t.packets refl (inr refl)
     where
       t : SplitStep
@@ -353,13 +354,13 @@ module _ (IsAssigned : ℕ → Type 0) (IsNumbered : (low high : ℕ) → Type 0
           let own : RangeOutcome = give_up_all now.context r in
           let t : SplitStep = gives_up_split (counted now.context own) z job in
           Acts range r held RestsSo (with_split own t) t.job
-          (subst (λ j. IsEffect IsNumbered range r j RestsSo (with_split own t) t.job) (sym some) (None_done (Some job) (with_split own t) t.job (Leaves job now.context (counted now.context own) z there)))
+          (subst (λ j. IsEffect IsNumbered range r j RestsSo (with_split own t) t.job) (sym some) (None_done (Some job) (with_split own t) t.job (Leaves job now.context (counted now.context own) z there) tt))
           (given_up_splitting now range job own (Some z)).after (own.packets ++ t.packets) refl (inr refl)
 
       by : (r : RangeState) → range_of st.ranges range ≡ Some r → (job : Option SplitJob) → split_of st.splits range ≡ job → TurnOf RestsSo (given_up_with now range job (give_up_all now.context r))
       by r held None none =
           let ro : RangeOutcome = give_up_all now.context r in
-          Acts range r held RestsSo ro None (subst (λ j. IsEffect IsNumbered range r j RestsSo ro None) (sym none) (None_done None ro None (Alone [] ro (Yields now.context))))
+          Acts range r held RestsSo ro None (subst (λ j. IsEffect IsNumbered range r j RestsSo ro None) (sym none) (None_done None ro None (Alone [] ro (Yields now.context)) tt))
           (stepped_alone now range ro).after ro.packets refl (inl (refl, none))
       by r held (Some job) some = left r held job some (give_up_all now.context r).after refl
 
@@ -384,7 +385,7 @@ module _ (IsAssigned : ℕ → Type 0) (IsNumbered : (low high : ℕ) → Type 0
       begins r held none may true =
           let o : RangeOutcome = checkpoint_rule st.context r combine in
           subst (TurnOf RestsSo) (sym (stepped_unmerged st whole range o)) (subst (λ j. TurnOf RestsSo (stepped_with st range j o)) (sym none)
-          (alone_turn range r held [] o (BeginsCheckpoint st.context combine may) none RestsSo (None_done None o None (Alone [] o (BeginsCheckpoint st.context combine may)))))
+          (alone_turn range r held [] o (BeginsCheckpoint st.context combine may) none RestsSo (None_done None o None (Alone [] o (BeginsCheckpoint st.context combine may)) tt)))
       begins r held none may false = rests_turn
 
       by : (known : Option RangeState) → range_of st.ranges range ≡ known → (job : Option SplitJob) → split_of st.splits range ≡ job → (fault : Option Refusal) → checkpoint_refused (has_jobs st range) (range_of st.ranges range) ≡ fault →
@@ -406,7 +407,7 @@ module _ (IsAssigned : ℕ → Type 0) (IsNumbered : (low high : ℕ) → Type 0
           let all = none_met (split_tests r key) may in
           Acts range r held RestsSo (of_split t) t.job
           (subst (λ j. IsEffect IsNumbered range r j RestsSo (of_split t) t.job) (sym none)
-          (None_done None (of_split t) t.job (BeginsSplit st.context key (not_false (is_serving r.stage) all.0) (is_none r.control (or_false (is_some r.control) (is_some r.fixed) all.1.1.0)))))
+          (None_done None (of_split t) t.job (BeginsSplit st.context key (not_false (is_serving r.stage) all.0) (is_none r.control (or_false (is_some r.control) (is_some r.fixed) all.1.1.0)) (not_false (is_split_key r.said.keys key) all.1.1.1.0)) tt))
           (split_stepped st range t).after t.packets refl (inr refl)
       begins r held none may false = rests_turn
 

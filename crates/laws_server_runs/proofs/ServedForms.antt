@@ -75,7 +75,6 @@ module _ (texts : ℕ → Bytes) (subject : ℕ) where
       log = ap (λ l. Made r.load.generation group ∷ l) streams.log;
       metadata = streams.metadata;
       chain = (may_form, streams.chain);
-      keys = streams.keys;
       spelled = λ a g group at.
           ⊎_elim {C = (x : LogRecord) × (group ≡ spelling x) × (record_at group ≡ Some x)}
           (λ new.

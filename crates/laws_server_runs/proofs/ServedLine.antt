@@ -36,7 +36,7 @@ use Rattle.laws_server_runs.specs.RangeInvariant.{Matches}
 module _ (texts : ℕ → Bytes) where
   -- ---- the fixed layer
 
-  module _ (c : CheckpointParts) (all : AllStand texts c.answered) (key : Bytes) where
+  module _ (c : CheckpointParts) (all : AllStand texts c.answered) (key : Bytes) (there : within c.keys key ≡ true) where
     abbrev FixedIs : Type 0
     FixedIs = newer_layer texts c.entries key ≡ c.layer key
 
@@ -44,7 +44,7 @@ module _ (texts : ℕ → Bytes) where
     none_is h = ap (λ e. newer_layer texts e key) h.entries ∙ ap (λ (l : Layer). l key) (sym h.layer)
 
     noted_is : (job : CheckpointState) → HasNoted texts c job → FixedIs
-    noted_is job h = ap (λ e. newer_layer texts e key) h.entries ∙ h.layer all key
+    noted_is job h = ap (λ e. newer_layer texts e key) h.entries ∙ h.layer all key there
 
     phase_is : (job : CheckpointState) (phase : CheckpointPhase) → HoldsPhase texts c job phase → FixedIs
     phase_is job checkpoints.Combining h = noted_is job h.noted
@@ -53,7 +53,7 @@ module _ (texts : ℕ → Bytes) where
     phase_is job (checkpoints.Record index) h = noted_is job h.writes.noted
     phase_is job (checkpoints.Trim before to_blob q) h = none_is h.0
 
-    -- it is what the run says, whatever is under way
+    -- it is what the run says within the range's keys, whatever is under way
     pub fixed_is : (control : Option CheckpointState) → HoldsCheckpoint texts c control → FixedIs
     fixed_is None h = none_is h
     fixed_is (Some job) h = phase_is job job.phase h
@@ -67,10 +67,10 @@ module _ (texts : ℕ → Bytes) where
   abbrev said_by : Serving → Layer
   said_by s = over s.live (over s.fixed (indexed (layer_at texts) (said first_beginning s.records).indexes))
 
-  known_is : (v : RangeView) (s : Serving) (r : RangeState) → Matches texts v s r → AllStand texts v.answered → (key : Bytes) → known_at r key ≡ said_by s key
-  known_is v s r m all key = λ i.
-      if is_some (m.live all key i) then m.live all key i
-      else (if is_some (fixed_is (parts_of v s r) all key r.control m.checkpoint i) then fixed_is (parts_of v s r) all key r.control m.checkpoint i
+  known_is : (v : RangeView) (s : Serving) (r : RangeState) → Matches texts v s r → AllStand texts v.answered → (key : Bytes) → within r.said.keys key ≡ true → known_at r key ≡ said_by s key
+  known_is v s r m all key there = λ i.
+      if is_some (m.live all key there i) then m.live all key there i
+      else (if is_some (fixed_is (parts_of v s r) all key there r.control m.checkpoint i) then fixed_is (parts_of v s r) all key there r.control m.checkpoint i
       else indexed (layer_at texts) (m.said i).indexes key)
 
   -- ---- the line
@@ -122,5 +122,5 @@ module _ (texts : ℕ → Bytes) where
           of_generation = h.has_line;
           number = sym next_number ∙ by_number s.out s.next h.line h.number;
           next = next_behind s.out s.next h.line h.number;
-          table = λ key there. ap flat (known_is v s r m all key) ∙ h.table key (ap (λ (z : MetadataState). within z.keys key) (sym m.said) ∙ there);
+          table = λ key there. ap flat (known_is v s r m all key there) ∙ h.table key (ap (λ (z : MetadataState). within z.keys key) (sym m.said) ∙ there);
         }

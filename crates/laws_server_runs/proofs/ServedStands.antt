@@ -7,6 +7,7 @@ use Rattle.wire.specs.declared.streams.StreamKind.TheVariants as kinds
 use Rattle.streams.specs.declared.table.Position.{Position}
 use Rattle.client.specs.Client.{ClientState}
 use Rattle.memtable.specs.Entries.{Entries, put_all}
+use Rattle.metadata.specs.Keys.{within}
 use Rattle.commitlog.specs.Places.{kept}
 use Rattle.commitlog.specs.Record as record_specs
 use Rattle.commitlog.specs.Replay.{Numbered}
@@ -101,11 +102,11 @@ module _ (texts : ℕ → Bytes) (subject : ℕ) (run : Run) (v : RangeView) (r 
         ap (λ i. base i + (offset + size)) index ∙ sum ((r.log.base + length r.log.extents) - 1)
 
     -- the layer gets the group's transactions
-    live_is : AllStand texts stood_view.answered → (key : Bytes) → layer_in texts more_live key ≡ layer_line (items_out old_held.out) old_held.live key
-    live_is all key =
+    live_is : AllStand texts stood_view.answered → (key : Bytes) → within r.said.keys key ≡ true → layer_in texts more_live key ≡ layer_line (items_out old_held.out) old_held.live key
+    live_is all key there =
         let items : items_out old_held.out ≡ transactions = ap items_out out_is ∙ ap (λ (x : Numbered Transaction). x.items) spells in
         all_transactions texts extent (offset + length (record_specs.text (record_of out.first out.transactions))) transactions r.live old_held.live key
-        (values_stand (texts extent) offset (record_of out.first out.transactions) all.0) (k.matches.live all.1 key)
+        (values_stand (texts extent) offset (record_of out.first out.transactions) all.0) (k.matches.live all.1 key there)
         ∙ ap (λ l. layer_line l old_held.live key) (sym items)
 
     stood_matches : Matches texts stood_view (logged end old_held) stood_range
@@ -142,7 +143,6 @@ module _ (texts : ℕ → Bytes) (subject : ℕ) (run : Run) (v : RangeView) (r 
       log = ap (λ l. Answered append (place_number at) end ∷ l) streams.log;
       metadata = streams.metadata;
       chain = ((k.shown, group, out_is), streams.chain);
-      keys = streams.keys;
       spelled = λ a g other there. streams.spelled a g other (made_before a g other there);
       records = streams.records;
     }

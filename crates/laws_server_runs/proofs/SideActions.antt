@@ -24,6 +24,7 @@ use Rattle.model_partition.specs.Loading.{Group}
 use Rattle.model_partition.specs.Splits.{side_range, may_say_keys}
 use Rattle.model_partition.specs.Range.{RangeState, request, picking}
 use Rattle.model_histories.specs.StreamActions.{Forms, Stands, SideAction, keys_said, keys_after, keys_told, built_refused, built_told, built, sides_in, split_sides}
+use Rattle.laws_server_runs.specs.ChildInvariant.{keys_group}
 use Rattle.laws_server_runs.specs.RunInvariant.{IsApartIn, IsApart}
 use Rattle.laws_server_runs.proofs.Actions.{AreOthers}
 use Rattle.laws_server_runs.proofs.LaidSplits.{AppendsRecord}
@@ -34,10 +35,10 @@ module _ (Is : SideAction → Type 0) (d : ServerContext) (r : RangeState) (job 
   AllAre sides = AllByRecursion Is sides
 
   -- those that a phase leads to
-  module _ (forms : (side : Side) (group : Group) → Is (record { range = side_range job side; action = Forms kinds.Metadata group }))
+  module _ (forms : (side : Side) → Is (record { range = side_range job side; action = Forms kinds.Metadata (keys_group r job side) }))
       (stands : (side : Side) (extent : ℕ) (at : Position) (group : Group) → Is (record { range = side_range job side; action = Stands kinds.Metadata extent at group })) where
     said_are : (side : Side) → AllAre (keys_said r job side)
-    said_are side = if_elim AllAre (may_say_keys r job) _ _ (λ t. (forms side _, tt)) (λ f. tt)
+    said_are side = if_elim AllAre (may_say_keys r job) _ _ (λ t. (forms side, tt)) (λ f. tt)
 
     after_are : (side : Side) → AllAre (keys_after r job side)
     after_are Low = said_are High
@@ -47,7 +48,7 @@ module _ (Is : SideAction → Type 0) (d : ServerContext) (r : RangeState) (job 
     both_are [] ys a b = b
     both_are (x ∷ xs) ys a b = (a.0, both_are xs ys a.1 b)
 
-    told_are : (side : Side) (c : ClientState) (said : Option News) → AllAre (keys_told r job side c said)
+    pub told_are : (side : Side) (c : ClientState) (said : Option News) → AllAre (keys_told r job side c said)
     told_are side c (Some (news.Appended e offset)) = both_are (keys_after r job side) _ (after_are side) (stands side e _ _, tt)
     told_are side c None = tt
     told_are side c (Some news.Fenced) = tt
@@ -63,7 +64,7 @@ module _ (Is : SideAction → Type 0) (d : ServerContext) (r : RangeState) (job 
     stream_are (streams.Modified w) = said_are Low
     stream_are body = tt
 
-    built_are : (body : Body) → AllAre (built r job body)
+    pub built_are : (body : Body) → AllAre (built r job body)
     built_are (bodies.Append body) = refused_are body
     built_are (bodies.Stream body) = stream_are body
     built_are body = tt
@@ -73,8 +74,8 @@ pub sides_append : (d : ServerContext) (r : RangeState) (job : SplitJob) (body :
 sides_append d r job body = by job.phase
   where
     by : (phase : SplitPhase) → AllByRecursion (λ (side : SideAction). AppendsRecord side.action) (sides_in d r job phase body)
-    by (phases.Keys side c) = told_are (λ (side : SideAction). AppendsRecord side.action) d r job (λ s group. tt) (λ s e at group. tt) side c (reply_rule (picking d c) (request d) body).news
-    by (phases.Build q) = built_are (λ (side : SideAction). AppendsRecord side.action) d r job (λ s group. tt) (λ s e at group. tt) body
+    by (phases.Keys side c) = told_are (λ (side : SideAction). AppendsRecord side.action) d r job (λ s. tt) (λ s e at group. tt) side c (reply_rule (picking d c) (request d) body).news
+    by (phases.Build q) = built_are (λ (side : SideAction). AppendsRecord side.action) d r job (λ s. tt) (λ s e at group. tt) body
     by (phases.Begin q) = tt
     by phases.Checkpoint = tt
     by phases.Queue = tt
@@ -92,8 +93,8 @@ sides_others k d r job body apart = by job.phase apart
 
     by : (phase : SplitPhase) → IsApartIn k job phase → AreOthers k (sides_in d r job phase body)
     by (phases.Keys side c) apart =
-        told_are (λ (side : SideAction). k ≡ side.range → ⊥) d r job (λ s group. other apart s) (λ s e at group. other apart s) side c (reply_rule (picking d c) (request d) body).news
-    by (phases.Build q) apart = built_are (λ (side : SideAction). k ≡ side.range → ⊥) d r job (λ s group. other apart s) (λ s e at group. other apart s) body
+        told_are (λ (side : SideAction). k ≡ side.range → ⊥) d r job (λ s. other apart s) (λ s e at group. other apart s) side c (reply_rule (picking d c) (request d) body).news
+    by (phases.Build q) apart = built_are (λ (side : SideAction). k ≡ side.range → ⊥) d r job (λ s. other apart s) (λ s e at group. other apart s) body
     by (phases.Begin q) apart = tt
     by phases.Checkpoint apart = tt
     by phases.Queue apart = tt

@@ -302,7 +302,7 @@ module _ (texts : ℕ → Bytes) (subject : ℕ) where
         goes = Adds _ run Rests refl;
         kept = (record { split = Recording (split_record job); range = formed_kept; splits = (serving, (refl, left)) }, refl);
         streams = recording_streams texts run v streams g job.number (split_item job) (split_group job) spells
-            (inr (record { number = job.number; low = job.low; high = job.high; key = job.key; spells = spells })) (λ keys is. absurd cc) may_append;
+            (inr (inl (record { number = job.number; low = job.low; high = job.high; key = job.key; spells = spells }))) may_append;
         longer = ([], refl);
         seen = λ notes old. old;
       }
@@ -361,7 +361,7 @@ module _ (texts : ℕ → Bytes) (subject : ℕ) where
       said = ap (λ x. taken x (split_item job)) mo.said ∙ sym (said_with first_beginning was.records (split_item job)) ∙ ap (said first_beginning) (sym records_now);
       installed = mo.installed;
       ordered = mo.ordered;
-      named = record { keys = mo.named.keys; indexes = mo.named.indexes };
+      named = record { indexes = mo.named.indexes; counts = record { indexes = mo.named.counts.indexes; regions = mo.named.counts.regions } };
       rows = mo.rows;
       reads = mo.reads;
       beside = tt;

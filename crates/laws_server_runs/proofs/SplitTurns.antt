@@ -622,7 +622,7 @@ module _ (texts : ℕ → Bytes) (subject : ℕ) where
     pub step_turn : (IsNumbered : (low high : ℕ) → Type 0) (job : Option SplitJob) (actions : List StreamAction) (o : RangeOutcome) (later : Option SplitJob) → IsStep IsNumbered r job actions o later → HeldKept texts subject run v r job →
         InOrder texts (view_after_all g v actions) → TurnKept texts subject run v r actions o later
     step_turn IsNumbered job actions o later (Alone own_actions own rule) held order = alone_kept held own_actions own rule order
-    step_turn IsNumbered job actions o later (BeginsSplit d key may none) held order = begins_split d key may held
+    step_turn IsNumbered job actions o later (BeginsSplit d key may none splits) held order = begins_split d key may held
     step_turn IsNumbered job actions o later (Drops split own_actions own rule calm gone) held order = dropped_turn split held own_actions own rule calm order gone
     step_turn IsNumbered job actions o later (Follows split own_actions own rule calm room d counts next left) held order =
         followed_turn split held own_actions own rule calm room d counts next left

@@ -19,9 +19,10 @@ use Rattle.laws_loads.proofs.Entries.{entry_set, entry_other}
 use Rattle.laws_loads.specs.RangeView.{RangeView, view_after_all}
 use Rattle.laws_tables.specs.Runs.{Run, IsServing}
 use Rattle.laws_server_runs.specs.RangeInvariant.{StageIs, RangeKept, StreamsKept, AreObserved, GoesOn, Rests, Adds, IsLonger, IsAlone, ServesAnew}
-use Rattle.laws_server_runs.specs.RunInvariant.{view_at, with_stage, HeldKept, HeldIf, TurnKept, Taken, RunBehind}
+use Rattle.laws_server_runs.specs.RunInvariant.{view_at, with_stage, HeldKept, HeldIf, TurnKept, HasLoad, Taken, RunBehind, RunOn}
 use Rattle.laws_server_runs.proofs.Actions.{other_test, actions_here, actions_apart, actions_rest}
-use Rattle.laws_server_runs.proofs.Fronts.{SeenBoth, seen_both, longer_twice}
+use Rattle.laws_server_runs.proofs.Fronts.{SeenBoth, seen_both}
+use Rattle.laws_server_runs.proofs.ConfirmedLoads.{has_behind, has_front, new_load}
 use Rattle.laws_server_runs.proofs.Others.{streams_same, others_kept}
 use Rattle.laws_server_runs.proofs.OwnNotes.{only_both}
 
@@ -180,12 +181,46 @@ module _ (texts : ℕ → Bytes) (subject : ℕ) where
         let all : only subject notes ≡ only subject b.before ++ b.later = ap (only subject) b.is ∙ only_both subject b.before b.later ∙ ap (λ l. only subject b.before ++ l) (own_seen b.later b.second_seen) in
         subst (λ l. AreObserved texts subject step.next l) (append_assoc taken.notes (only subject b.before) b.later ∙ sym (ap (λ l. taken.notes ++ l) all)) new
 
-    pub stepped_kept : RunBehind texts subject taken next_run
-    stepped_kept = record {
-      run = step.next;
-      behind = longer_twice taken.run k.run step.next k.behind (goes_behind g k.run step.next step.goes);
-      ranges = all_ranges;
-      own = own_one;
-      streams = streams_same texts step.next (view_at subject next_run s) (view_at subject next_run 0) refl refl (subst (λ v. StreamsKept texts step.next v) (sym here) step.streams);
-      seen = all_seen;
+    -- ---- what was loaded
+
+    -- what this step adds to the run
+    more : IsLonger k.run step.next
+    more = goes_behind g k.run step.next step.goes
+
+    abbrev own_part : Run
+    own_part = more.0 ++ k.behind.0
+
+    loaded_under : (h : ℕ) → HasLoad h k.behind.0 → HasLoad h own_part
+    loaded_under h old = has_behind h more.0 k.behind.0 old
+
+    own_loaded : (u : RangeState) → ServesAt next_run s subject u → HasLoad u.load.generation own_part
+    own_loaded u b =
+        let mine : IsOwn u = own_after u b in
+        let e : after ≡ b.state = at_here b.cell b.state b.there b.runs in
+        let now : HeldKept texts subject step.next (view_at subject next_run s) u (split_of after.splits subject) = (own_range u (ap (λ (z : ServerState). range_of z.ranges subject) e ∙ b.held)).0 in
+        let shown : IsServing step.next g = subst (IsServing step.next) mine.generation (shown_at step.next (with_stage (view_at subject next_run s) now.split) u now.range b.serves) in
+        let own : HasLoad g own_part = elim mine.was [
+          | inl served ↦ loaded_under g (k.loaded s r (r_serves served))
+          | inr none ↦ has_front g more.0 k.behind.0 (new_load g more.0 k.run (subst (λ z. IsServing z g) more.1 shown) none)
+        ] in
+        subst (λ h. HasLoad h own_part) (sym mine.generation) own
+
+    all_loaded : (t : ℕ) (u : RangeState) → ServesAt next_run t subject u → HasLoad u.load.generation own_part
+    all_loaded t u b = elim (cases_eq t s) [
+      | inl same ↦ own_loaded u (subst (λ n. ServesAt next_run n subject u) same b)
+      | inr apart ↦ loaded_under u.load.generation (k.loaded t u (before t apart u b))
+    ]
+
+    pub stepped_on : RunOn texts subject taken x k next_run
+    stepped_on = record {
+      kept = record {
+        run = step.next;
+        behind = (own_part, more.1 ∙ ap (λ z. more.0 ++ z) k.behind.1 ∙ sym (append_assoc more.0 k.behind.0 taken.run));
+        ranges = all_ranges;
+        own = own_one;
+        loaded = all_loaded;
+        streams = streams_same texts step.next (view_at subject next_run s) (view_at subject next_run 0) refl refl (subst (λ v. StreamsKept texts step.next v) (sym here) step.streams);
+        seen = all_seen;
+      };
+      goes = more;
     }

@@ -14,7 +14,7 @@ use Rattle.laws_loads.proofs.Renaming.{renamed_keeps}
 use Rattle.laws_tables.proofs.Ends.{renamed_ends_rise}
 use Rattle.laws_tables.proofs.Final.{tables_of_first_range_replay}
 use Rattle.laws_checkpoints.specs.IndexLayers.{layer_at}
-use Rattle.laws_server_runs.specs.RangeInvariant.{InOrder, AreObserved}
+use Rattle.laws_server_runs.specs.RangeInvariant.{Serves, StreamsKept, InOrder, AreObserved}
 use Rattle.laws_server_runs.specs.RunInvariant.{view_at, with_stage, HeldKept, AreApart, nothing_taken, RunKept}
 use Rattle.laws_loads.specs.RangeView.{RangeView}
 use Rattle.laws_server_runs.specs.Turns.{outcome_of, IsOfServers, BuildsOther}
@@ -23,8 +23,10 @@ use Rattle.laws_server_runs.proofs.BuiltStreams.{built_beside}
 use Rattle.laws_server_runs.specs.Places.{RunLaid}
 use Rattle.laws_server_runs.proofs.FirstAlone.{only_first}
 use Rattle.laws_server_runs.proofs.Fronts.{order_shorter, once_shorter, ends_shorter, stand_shorter}
-use Rattle.laws_server_runs.proofs.HeldLine.{at_line}
+use Rattle.laws_server_runs.proofs.HeldLine.{at_line, at_own_keys}
+use Rattle.laws_server_runs.proofs.HeldRecords.{keys_by_server}
 use Rattle.laws_server_runs.proofs.Kept.{step_kept}
+use Rattle.laws_server_runs.proofs.KeptKeys.{unnamed, names_none, keeps_keys}
 use Rattle.laws_server_runs.proofs.LaidRuns.{bare, all_laid}
 use Rattle.laws_server_runs.proofs.Others.{streams_same}
 use Rattle.laws_server_runs.proofs.RunSteps.{IsAny, IsAnyPair, IsBuild, any_assigned, any_numbered, event_kind, event_step}
@@ -46,16 +48,17 @@ module _ (texts : ℕ → Bytes) (subject : ℕ) where
     answered = stand_shorter texts (x.answered subject) (y.answered subject) (l.answered subject) o.answered;
   }
 
-  of_view : (x : ServerRun) → StreamsInOrder texts subject x → InOrder texts (view_at subject x 0)
+  pub of_view : (x : ServerRun) → StreamsInOrder texts subject x → InOrder texts (view_at subject x 0)
   of_view x o = record { log = o.log; metadata = o.metadata; once = o.once; ends = o.ends; shown = o.shown; answered = o.answered }
 
-  first_kept : (batch servers : ℕ) → RunKept texts subject (first_run batch servers)
+  pub first_kept : (batch servers : ℕ) → RunKept texts subject (first_run batch servers)
   first_kept batch servers = record {
     run = [];
     behind = ([], refl);
     ranges = λ s cell st at up r held. absurd (let z : None ≡ Some r = sym (ap (λ l. range_of l subject) (bare batch servers s cell st at up)) ∙ held in cc);
     own = λ s t r u one two e. absurd (none s r one);
-    streams = record { log = refl; metadata = refl; chain = tt; keys = tt; spelled = λ a g group e. absurd cc; records = λ a g group e. absurd cc };
+    loaded = λ s r serves. absurd (none s r serves);
+    streams = record { log = refl; metadata = refl; chain = tt; spelled = λ a g group e. absurd cc; records = λ a g group e. absurd cc };
     seen = nothing_seen;
   }
     where
@@ -88,7 +91,7 @@ module _ (texts : ℕ → Bytes) (batch servers : ℕ) where
       let x : ServerRun = run_of batch servers events in
       let k : RunKept texts first_range x = all_kept texts first_range batch servers events apart order in
       let o : AreObserved texts first_range k.run (only first_range (table_notes h)) = k.seen (table_notes h) seen in
-      tables_of_first_range_replay (layer_at texts) o.0 k.run h k.streams.chain k.streams.keys o.1
+      tables_of_first_range_replay (layer_at texts) o.0 k.run h k.streams.chain (keeps_keys k.run (x.story (metadata_name first_range)) k.streams.metadata (unnamed first_range batch servers events apart)) o.1
       (subst (λ z. KeepsOrder z) (sym k.streams.log) (renamed_keeps decoded (x.story (log_name first_range)) order.log))
       (subst (λ z. EndsRise z) (sym k.streams.log) (renamed_ends_rise decoded (x.story (log_name first_range)) order.ends))
       (subst (λ z. KeepsOrder z) (sym k.streams.metadata) (renamed_keeps decoded_record (x.story (metadata_name first_range)) order.metadata))
@@ -109,8 +112,11 @@ module _ (texts : ℕ → Bytes) (batch servers : ℕ) where
       let h : HeldKept texts range k.run (view_at range x s) r (split_of at.state.splits range) = kept_at texts range nothing_taken x k s r at in
       let v : RangeView = with_stage (view_at range x s) h.split in
       let o : AreObserved texts range k.run (only range (seen_as texts x.notes)) = k.seen (seen_as texts x.notes) (all_seen texts x.notes) in
-      at_line texts k.run v r (streams_same texts k.run (view_at range x 0) v refl refl k.streams) (serves_of texts range k.run v r at.serves h.range)
-      o.0 o.1 log order.ends order.metadata h.range.sound.out_fits order.answered
+      let streams : StreamsKept texts k.run v = streams_same texts k.run (view_at range x 0) v refl refl k.streams in
+      let serves : Serves texts k.run v r = serves_of texts range k.run v r at.serves h.range in
+      at_line texts (x.story (log_name range)) log.copies r
+      (keys_by_server texts k.run v r streams order.metadata (names_none (x.story (metadata_name range)) (unnamed range batch servers events apart)) serves)
+      (at_own_keys texts k.run v r streams serves o.0 o.1 log order.ends order.metadata h.range.sound.out_fits order.answered)
 
   -- also while it is split, where no split makes it
   pub served_at_line : (events : List ServerEvent) (s range : ℕ) (r : RangeState) → AreUnborn range events → StreamsInOrder texts range (run_of batch servers events) →

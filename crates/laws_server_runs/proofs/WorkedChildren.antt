@@ -1,6 +1,6 @@
 -- The two ranges that a split makes, by computing: the streams of each are built of those of the range as they stand when all that it
 -- made is answered, and then the split says the keys of each in its metadata, behind what the range has done.
-use Rattle.std.proofs.Common.{◌≡◌, ◌+◌, List, [], ◌∷◌, Some, None, refl}
+use Rattle.std.proofs.Common.{◌≡◌, ◌+◌, List, [], ◌∷◌, Some, refl}
 use Rattle.blocks.specs.Record as numbers
 use Rattle.block_types.specs.Limits.{group_size}
 use Rattle.wire.specs.declared.actor.ActorId.TheVariants.{Manager}

@@ -11,6 +11,7 @@ use Rattle.metadata.specs.declared.record.KeyRange.{KeyRange}
 use Rattle.metadata.specs.declared.record.MetaItem.{MetaItem}
 use Rattle.metadata.specs.declared.record.MetaRecord.{MetaRecord}
 use Rattle.metadata.specs.declared.record.MetaItem.TheVariants.{Checkpoint}
+use Rattle.metadata.specs.Keys.{within}
 use Rattle.metadata.specs.Record.{IsNext, IsPosition}
 use Rattle.checkpoint_format.specs.Index.{index_group}
 use Rattle.checkpoint_format.specs.Page.{pages_of}
@@ -148,7 +149,7 @@ module _ (texts : ℕ → Bytes) where
     pub fixed : Entries
     pub entries : c.entries ≡ Some fixed
     pub are_entries : AreEntries fixed
-    pub layer : AllStand texts c.answered → (key : Bytes) → layer_in texts fixed key ≡ c.layer key
+    pub layer : AllStand texts c.answered → (key : Bytes) → within c.keys key ≡ true → layer_in texts fixed key ≡ c.layer key
     pub noted : c.noted ≡ Some (record { place = place_number job.position; next = job.next })
     pub position : IsPosition job.position
     pub number : IsNext job.next

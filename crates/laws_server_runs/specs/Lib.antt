@@ -1,6 +1,10 @@
 pub mod CheckpointInvariant
+pub mod ChildInvariant
+pub mod ClosedRanges
+pub mod StoodRanges
 pub mod NamedIndexes
 pub mod RangeInvariant
 pub mod RunInvariant
 pub mod Places
 pub mod Turns
+pub mod FamilyMembers

@@ -1,21 +1,18 @@
--- The indexes that metadata names: each at a place of which something holds, and under all keys.
-use Rattle.std.specs.Prelude.{◌≡◌, List}
+-- The indexes that metadata names: each at a place of which something holds. They and the regions count for all of the range's keys,
+-- whatever others they have.
+use Rattle.std.specs.Prelude.{List}
 use Rattle.std.specs.List.{AllByRecursion}
 use Rattle.memtable.specs.declared.cell.Place.{Place}
 use Rattle.metadata.specs.declared.record.IndexRange.{IndexRange}
-use Rattle.metadata.specs.Fold.{MetadataState, all_keys}
+use Rattle.metadata.specs.Fold.{MetadataState}
+use Rattle.laws_tables.specs.NarrowKeys.{CountsForAll}
 
 -- the places of whose indexes this is so
 module _ (Holds : Place → Type 0) where
-  -- an index at such a place, under all keys
-  pub record IsNamed (index : IndexRange) : Type 0 where
-    pub holds : Holds index.place
-    pub keys : index.keys ≡ all_keys
-
   abbrev pub AreNamed : List IndexRange → Type 0
-  AreNamed indexes = AllByRecursion IsNamed indexes
+  AreNamed indexes = AllByRecursion (λ x. Holds x.place) indexes
 
-  -- metadata of all keys that names such indexes
+  -- metadata that names such indexes, each for all of its keys
   pub record NamesSuch (m : MetadataState) : Type 0 where
-    pub keys : m.keys ≡ all_keys
     pub indexes : AreNamed m.indexes
+    pub counts : CountsForAll m

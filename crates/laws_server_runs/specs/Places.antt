@@ -77,15 +77,15 @@ AreLow es = Ordered es × AllByRecursion IsLow es
 
 -- ---- observations
 
--- an observation of this range; a loaded table is laid within these bytes
-abbrev pub NoteWithin : ℕ → List PlacedBytes → TableNote → Type 0
-NoteWithin k placed (tables.Began range generation number changes) = range ≡ k
-NoteWithin k placed (tables.Done range generation number) = range ≡ k
-NoteWithin k placed (tables.Loaded range generation table next) = (range ≡ k) × IsLaid placed table.live
+-- an observation of this range under this generation; a loaded table is laid within these bytes
+abbrev pub NoteWithin : ℕ → ℕ → List PlacedBytes → TableNote → Type 0
+NoteWithin k g placed (tables.Began range generation number changes) = (range ≡ k) × (generation ≡ g)
+NoteWithin k g placed (tables.Done range generation number) = (range ≡ k) × (generation ≡ g)
+NoteWithin k g placed (tables.Loaded range generation table next) = (range ≡ k) × (generation ≡ g) × IsLaid placed table.live
 
-abbrev pub NotesWithin : ℕ → List PlacedBytes → List TableNote → Type 0
-NotesWithin k placed [] = Unit {0}
-NotesWithin k placed (note ∷ notes) = NoteWithin k placed note × NotesWithin k placed notes
+abbrev pub NotesWithin : ℕ → ℕ → List PlacedBytes → List TableNote → Type 0
+NotesWithin k g placed [] = Unit {0}
+NotesWithin k g placed (note ∷ notes) = NoteWithin k g placed note × NotesWithin k g placed notes
 
 -- each page of an index lies within these bytes
 abbrev pub PagesWithin : List PlacedBytes → List PageAt → Type 0
@@ -162,7 +162,7 @@ RangeLaidIf k v (Some r) = RangeLaid k v r
 -- what a step of it under a generation leaves
 pub record StepLaid (k : ℕ) (v : RangeView) (generation : ℕ) (actions : List StreamAction) (o : RangeOutcome) : Type 0 where
   pub after : RangeLaidIf k (view_after_all generation v actions) o.after
-  pub notes : NotesWithin k (view_after_all generation v actions).shown o.notes
+  pub notes : NotesWithin k generation (view_after_all generation v actions).shown o.notes
 
 -- no append to the metadata begins
 abbrev pub IsQuiet : List StreamAction → Type 0

@@ -12,8 +12,9 @@ use Rattle.memtable.specs.declared.cell.Place.{Place}
 use Rattle.memtable.specs.Entries.{Entries}
 use Rattle.metadata.specs.declared.record.KeyRange.{KeyRange}
 use Rattle.metadata.specs.declared.record.Region.{Region}
-use Rattle.metadata.specs.declared.record.MetaItem.TheVariants.{Checkpoint, SplitStatus}
+use Rattle.metadata.specs.declared.record.MetaItem.TheVariants.{Ranges, Checkpoint, SplitStatus}
 use Rattle.metadata.specs.Fold.{first_metadata}
+use Rattle.metadata.specs.Keys.{within}
 use Rattle.metadata.specs.declared.record.IndexRange.{IndexRange}
 use Rattle.metadata.specs.Record.{IsPosition}
 use Rattle.checkpoint_format.specs.declared.index.Index.{Index}
@@ -41,7 +42,7 @@ use Rattle.laws_loads.specs.Sound.{IsSound}
 use Rattle.laws_loads.specs.MemoryLayers.{layer_in}
 use Rattle.laws_loads.specs.RangeView.{RangeView, view_after_all, log_of, metadata_of}
 use Rattle.laws_tables.specs.Runs as chains
-use Rattle.laws_tables.specs.Runs.{Event, Run, Serving, first_beginning, record_group, said, held, seen, IsServing, IsChainRun, ShowsLayers, KeepsKeys}
+use Rattle.laws_tables.specs.Runs.{Event, Run, Serving, first_beginning, record_group, said, held, seen, IsServing, IsChainRun, ShowsLayers}
 use Rattle.laws_tables.specs.Through.{OutAppend}
 use Rattle.laws_checkpoints.specs.IndexLayers.{layer_at, IsWritten}
 use Rattle.laws_checkpoints.specs.ShownTables.{AreInstalled, HoldsBytes}
@@ -124,8 +125,14 @@ pub record IsSplitRecord (group : Group) : Type 0 where
   pub key : Bytes
   pub spells : decoded_record group ≡ record_group number (SplitStatus low high key)
 
+-- the group of a record that names keys
+pub record IsKeysRecord (group : Group) : Type 0 where
+  pub number : ℕ
+  pub keys : KeyRange
+  pub spells : decoded_record group ≡ record_group number (Ranges keys)
+
 abbrev pub IsRecord : (Place → Type 0) → Group → Type 0
-IsRecord Holds group = IsCheckpointRecord Holds group ⊎ IsSplitRecord group
+IsRecord Holds group = IsCheckpointRecord Holds group ⊎ (IsSplitRecord group ⊎ IsKeysRecord group)
 
 -- each group that was formed is one of these
 abbrev pub AreCheckpoints : (Place → Type 0) → Story Group → Type 0
@@ -182,12 +189,13 @@ module _ (texts : ℕ → Bytes) where
     pub position : place_number r.position ≡ s.position
     pub next : r.next ≡ s.next
     pub out : s.out ≡ append_of (v.history.append kinds.Log) r.out
-    pub live : AllStand texts v.answered → (key : Bytes) → layer_in texts r.live key ≡ s.live key
+    -- within its keys
+    pub live : AllStand texts v.answered → (key : Bytes) → within r.said.keys key ≡ true → layer_in texts r.live key ≡ s.live key
     pub checkpoint : HoldsCheckpoint texts (parts_of v s r) r.control
     -- the metadata says what its records say, and the indexes that it names are installed
     pub said : r.said ≡ said first_beginning s.records
     pub installed : AreInstalled texts r.indexes r.said.indexes
-    -- each is one of pages, under all keys
+    -- each is one of pages, and counts for all of its keys
     pub named : NamesSuch IsOfPages r.said
     -- what its client of row data appends is what the checkpoint waits for
     pub rows : AppendsRows r.rows r.control
@@ -251,7 +259,6 @@ module _ (texts : ℕ → Bytes) where
     pub log : chains.log_of run ≡ renamed decoded (log_of v)
     pub metadata : chains.meta_of run ≡ renamed decoded_record (metadata_of v)
     pub chain : IsChainRun (layer_at texts) first_beginning run
-    pub keys : KeepsKeys run
     pub spelled : AllSpelled (log_of v)
     pub records : AreCheckpoints IsOfPages (metadata_of v)
 

@@ -1,5 +1,5 @@
 -- What is kept of a range at all servers over a list of events, whatever other ranges they hold.
-use Rattle.std.specs.Prelude.{◌≡◌, ◌⊎◌, ℕ, suc, ◌^◌, true, nat_lt, List, [], ◌++◌, Option, Some, None}
+use Rattle.std.specs.Prelude.{◌≡◌, ◌⊎◌, ℕ, suc, ◌^◌, true, nat_lt, List, [], ◌∷◌, ◌++◌, Option, Some, None}
 use Rattle.wire.specs.declared.note.Note.{Note}
 use Rattle.model_streams.specs.Maps.{entry_at}
 use Rattle.model_histories.specs.Log.{only}
@@ -15,7 +15,7 @@ use Rattle.model_partition.specs.Servers.{ServerCell}
 use Rattle.model_histories.specs.ServerRun.{ServerRun, stream_named}
 use Rattle.model_histories.specs.ServedTables.{AreSeenAs, ServesAt}
 use Rattle.laws_loads.specs.RangeView.{RangeView, SplitStage, Free, Drains, Recording, view_after_all}
-use Rattle.laws_tables.specs.Runs.{Run}
+use Rattle.laws_tables.specs.Runs.{Confirms, Run}
 use Rattle.laws_server_runs.specs.RangeInvariant.{RangeKept, StreamsKept, AreObserved, GoesOn, IsLonger, IsAlone, ServesAnew}
 
 -- what a range at a server sees
@@ -67,6 +67,12 @@ pub record Taken : Type 0 where
 abbrev pub nothing_taken : Taken
 nothing_taken = record { run = []; notes = [] }
 
+-- a load under this generation is confirmed in a part of a run
+abbrev pub HasLoad : ℕ → Run → Type 0
+HasLoad g [] = ⊥
+HasLoad g (Confirms g' start end groups metadata_end records ∷ earlier) = (g ≡ g') ⊎ HasLoad g earlier
+HasLoad g (e ∷ earlier) = HasLoad g earlier
+
 -- ---- the range at all servers
 
 module _ (texts : ℕ → Bytes) (subject : ℕ) where
@@ -85,13 +91,24 @@ module _ (texts : ℕ → Bytes) (subject : ℕ) where
         (r : RangeState) → range_of state.ranges subject ≡ Some r → HeldKept run (view_at subject x s) r (split_of state.splits subject)
     -- no two servers serve the range under one generation
     pub own : (s t : ℕ) (r u : RangeState) → ServesAt x s subject r → ServesAt x t subject u → r.load.generation ≡ u.load.generation → s ≡ t
+    -- each that is served was loaded behind what was taken
+    pub loaded : (s : ℕ) (r : RangeState) → ServesAt x s subject r → HasLoad r.load.generation behind.0
     pub streams : StreamsKept texts run (view_at subject x 0)
     -- what was taken and what is seen of the range are what is seen of the run
     pub seen : (notes : List Note) → AreSeenAs texts x.notes notes → AreObserved texts subject run (taken.notes ++ only subject notes)
 
+  -- what is kept of it later goes on with what was kept
+  pub record RunOn (taken : Taken) (x : ServerRun) (old : RunBehind taken x) (y : ServerRun) : Type 0 where
+    pub kept : RunBehind taken y
+    pub goes : IsLonger old.run kept.run
+
   -- where its streams were not built of another's
   abbrev pub RunKept : ServerRun → Type 0
   RunKept x = RunBehind nothing_taken x
+
+  -- whatever they were built of
+  abbrev pub IsKept : ServerRun → Type 0
+  IsKept x = (taken : Taken) × RunBehind taken x
 
   -- ---- one step of the range, with its split
 

@@ -13,6 +13,7 @@ use Rattle.model_streams.specs.Maps.{entry_at}
 use Rattle.model_partition.specs.declared.server_context.ServerContext.{ServerContext}
 use Rattle.model_partition.specs.declared.table_note.TableNote.{TableNote}
 use Rattle.model_partition.specs.declared.split_job.SplitJob.{SplitJob}
+use Rattle.model_partition.specs.Map.{is_split_key}
 use Rattle.model_partition.specs.Range.{RangeState, RangeOutcome, is_serving}
 use Rattle.model_partition.specs.Splits.{SplitStep, new_split, split_rule, split_reply, follows, gives_up}
 use Rattle.model_partition.specs.Checkpoints.{checkpoint_fault, checkpoint_rule}
@@ -63,7 +64,8 @@ of_split t = record { after = t.range; count = t.count; packets = t.packets; not
 pub data IsStep (IsNumbered : (low high : ℕ) → Type 0) (r : RangeState) : Option SplitJob → List StreamAction → RangeOutcome → Option SplitJob → Type 0 where
   Alone : (actions : List StreamAction) (o : RangeOutcome) (rule : IsRule r actions o) → IsStep IsNumbered r None actions o None
   -- its split begins
-  BeginsSplit : (d : ServerContext) (key : List ℕ) (may : is_serving r.stage ≡ true) (none : r.control ≡ None) → IsStep IsNumbered r None [] (of_split (split_rule d r key)) (Some (new_split d r key))
+  BeginsSplit : (d : ServerContext) (key : List ℕ) (may : is_serving r.stage ≡ true) (none : r.control ≡ None) (splits : is_split_key r.said.keys key ≡ true) →
+      IsStep IsNumbered r None [] (of_split (split_rule d r key)) (Some (new_split d r key))
   -- it goes, and its split with it
   Drops : (job : SplitJob) (actions : List StreamAction) (o : RangeOutcome) (rule : IsRule r actions o) (calm : IsCalm rule) (gone : o.after ≡ None) → IsStep IsNumbered r (Some job) actions o None
   -- its split follows
@@ -77,16 +79,25 @@ pub data IsStep (IsNumbered : (low high : ℕ) → Type 0) (r : RangeState) : Op
   Hears : (job : SplitJob) (d : ServerContext) (body : Body) (numbered : (w : ReqNo) (low high : ℕ) → body ≡ bodies.Map (maps.SplitBegun w low high) → IsNumbered low high) →
       IsStep IsNumbered r (Some job) [] (of_split (split_reply d r job body)) (split_reply d r job body).job
 
+-- an answer that comes to a split, and no other step
+abbrev pub IsHeard : {IsNumbered : (low high : ℕ) → Type 0} {r : RangeState} {job : Option SplitJob} {actions : List StreamAction} {o : RangeOutcome} {later : Option SplitJob} → ServerContext → Body → IsStep IsNumbered r job actions o later → Type 0
+IsHeard d body (Hears job own told numbered) = (d ≡ own) × (body ≡ told)
+IsHeard d body step = ⊥
+
+abbrev pub IsUnheard : {IsNumbered : (low high : ℕ) → Type 0} {r : RangeState} {job : Option SplitJob} {actions : List StreamAction} {o : RangeOutcome} {later : Option SplitJob} → IsStep IsNumbered r job actions o later → Type 0
+IsUnheard (Hears job d body numbered) = ⊥
+IsUnheard step = Unit {0}
+
 -- the splits of a server, where a step leaves this of one
 abbrev pub LeavesSplit : List (ℕ × SplitJob) → ℕ → Option SplitJob → List (ℕ × SplitJob) → Type 0
 LeavesSplit before range later after = ((after ≡ before) × (split_of before range ≡ later)) ⊎ (after ≡ set_split before range later)
 
 -- What a server does with streams in a step of a range that may be split: with its own, or with those of the two that its split makes.
 pub data IsEffect (IsNumbered : (low high : ℕ) → Type 0) (range : ℕ) (r : RangeState) : Option SplitJob → RangeEffect → RangeOutcome → Option SplitJob → Type 0 where
-  Own : (job : Option SplitJob) (actions : List StreamAction) (o : RangeOutcome) (later : Option SplitJob) (step : IsStep IsNumbered r job actions o later) →
+  Own : (job : Option SplitJob) (actions : List StreamAction) (o : RangeOutcome) (later : Option SplitJob) (step : IsStep IsNumbered r job actions o later) (unheard : IsUnheard step) →
       IsEffect IsNumbered range r job (Does range r.load.generation actions) o later
-  None_done : (job : Option SplitJob) (o : RangeOutcome) (later : Option SplitJob) (step : IsStep IsNumbered r job [] o later) → IsEffect IsNumbered range r job Rests o later
-  OfOthers : (job : SplitJob) (d : ServerContext) (body : Body) (o : RangeOutcome) (later : Option SplitJob) (step : IsStep IsNumbered r (Some job) [] o later) →
+  None_done : (job : Option SplitJob) (o : RangeOutcome) (later : Option SplitJob) (step : IsStep IsNumbered r job [] o later) (unheard : IsUnheard step) → IsEffect IsNumbered range r job Rests o later
+  OfOthers : (job : SplitJob) (d : ServerContext) (body : Body) (o : RangeOutcome) (later : Option SplitJob) (step : IsStep IsNumbered r (Some job) [] o later) (heard : IsHeard d body step) →
       IsEffect IsNumbered range r (Some job) (Tells job.generation (split_sides d r job body)) o later
 
 -- A step of a server, to which the map assigns such ranges, and for whose splits it numbers ranges so: its ranges are as they were, or

@@ -5,6 +5,7 @@ use Rattle.std.proofs.lemmas.List.{append-nil, reverse-append}
 use Rattle.std.proofs.lemmas.Bool.Decides.{nat_tests}
 use Rattle.wire.specs.declared.note.Note.{Note}
 use Rattle.wire.specs.declared.note.Note.TheVariants.{Acked, SealedAt, Content, Seen, Began, Done, Loaded, Split, Merged}
+use Rattle.metadata.specs.declared.record.KeyRange.{KeyRange}
 use Rattle.metadata.specs.Fold.{all_keys}
 use Rattle.model_partition.specs.Past.{owners, owners_back, eldest, eldest_back, kin, kin_back, keys_of, keys_back}
 use Rattle.model_histories.specs.StreamMachine.{In}
@@ -155,6 +156,50 @@ module _ (h : List Note) (p r : ℕ) (c : IsChild h p r) where
       ∙ ap (λ z. r ∷ z)
       (sym (ap (λ z. kin_back z p) reversed ∙ kin_skip p (reverse c.after) (split ∷ reverse c.before) parent_none
       ∙ ap (λ z. cond z (p ∷ kin_back (reverse c.before) p) (kin_back (reverse c.before) p)) kept))
+
+  -- the keys of the two are those of the range below and from the key on
+  parent_keys : keys_of h p ≡ keys_back (reverse c.before) p
+  unfolding split back
+  parent_keys =
+      ap (λ z. keys_back z p) reversed ∙ keys_skip p (reverse c.after) (split ∷ reverse c.before) parent_none
+      ∙ neither (p == c.low) (p == c.high) kept (record { low = (keys_back (reverse c.before) p).low; high = Some c.key }) (record { low = c.key; high = (keys_back (reverse c.before) p).high })
+      (keys_back (reverse c.before) p)
+    where
+      neither : (x y : Bool) → (x || y) ≡ false → (one two other : KeyRange) → cond x one (cond y two other) ≡ other
+      neither true y e one two other = absurd cc
+      neither false true e one two other = absurd cc
+      neither false false e one two other = refl
+
+  -- the key of the split
+  split_keys : keys_of h r ≡ cond (r == c.low) (record { low = (keys_back (reverse c.before) p).low; high = Some c.key })
+      (cond (r == c.high) (record { low = c.key; high = (keys_back (reverse c.before) p).high }) (keys_back (reverse c.before) r))
+  unfolding split back
+  split_keys = ap (λ z. keys_back z r) reversed ∙ keys_skip r (reverse c.after) (split ∷ reverse c.before) child_none
+
+  pub low_keys : r ≡ c.low → keys_of h r ≡ record { low = (keys_of h p).low; high = Some c.key }
+  low_keys is =
+      let test : (r == c.low) ≡ true = grind (arith, nat_tests) in
+      split_keys
+      ∙ ap (λ z. cond z (record { low = (keys_back (reverse c.before) p).low; high = Some c.key })
+      (cond (r == c.high) (record { low = c.key; high = (keys_back (reverse c.before) p).high }) (keys_back (reverse c.before) r))) test
+      ∙ ap (λ (z : KeyRange). record { low = z.low; high = Some c.key }) (sym parent_keys)
+
+  pub high_keys : r ≡ c.high → (c.high ≡ c.low → ⊥) → keys_of h r ≡ record { low = c.key; high = (keys_of h p).high }
+  high_keys is apart =
+      let other : (r == c.low) ≡ false = not_same r c.low (λ e. apart (sym is ∙ e)) in
+      let test : (r == c.high) ≡ true = grind (arith, nat_tests) in
+      split_keys
+      ∙ ap (λ z. cond z (record { low = (keys_back (reverse c.before) p).low; high = Some c.key })
+      (cond (r == c.high) (record { low = c.key; high = (keys_back (reverse c.before) p).high }) (keys_back (reverse c.before) r))) other
+      ∙ ap (λ z. cond z (record { low = c.key; high = (keys_back (reverse c.before) p).high }) (keys_back (reverse c.before) r)) test
+      ∙ ap (λ (z : KeyRange). record { low = c.key; high = z.high }) (sym parent_keys)
+    where
+      not_same : (m n : ℕ) → (m ≡ n → ⊥) → (m == n) ≡ false
+      not_same m n other = go (m == n) refl
+        where
+          go : (b : Bool) → (m == n) ≡ b → b ≡ false
+          go true e = absurd (let same : m ≡ n = grind (arith, nat_tests) in other same)
+          go false e = refl
 
 -- a range is the first of its owners
 self_back : (h : List Note) (r : ℕ) → In r (owners_back h r)

@@ -103,7 +103,7 @@ line_keys m keys [] e h = e
 line_keys m keys (item ∷ items) e h =
     line_keys (taken m item) keys items (item_keys m item keys e (λ other q. h [] items other (ap (λ z. z ∷ items) q))) (λ us vs other q. h (item ∷ us) vs other (ap (λ z. item ∷ z) q))
 
-fold-append : (m : MetadataState) (xs ys : List MetaItem) → fold_of m (xs ++ ys) ≡ fold_of (fold_of m xs) ys
+pub fold-append : (m : MetadataState) (xs ys : List MetaItem) → fold_of m (xs ++ ys) ≡ fold_of (fold_of m xs) ys
 fold-append m [] ys = refl
 fold-append m (x ∷ xs) ys = fold-append (taken m x) xs ys
 

@@ -13,6 +13,7 @@ use Rattle.model_histories.specs.Log.{line_shown, begins_of, dones_at}
 use Rattle.model_partition.specs.Past.{Transaction, empty_table, after_line, kept, Replays, table_notes, first_range}
 use Rattle.model_histories.specs.Story.{Placed, StreamEvent, Made, Answered, Showed, event_at, Copy, placed, KeepsOrder, EndsRise, whole}
 use Rattle.laws_tables.specs.Ends.{StandsBehind}
+use Rattle.laws_tables.specs.Families.{HasKeys}
 use Rattle.laws_tables.specs.Layers.{Layer}
 use Rattle.laws_tables.specs.Runs.{Event, Forms, Logged, Notes, Records, Recorded, Trims, Confirms, Run, log_of, record_group, meta_of, Beginning, first_beginning, IsBeginning, fold_of, ShownLoad, said, next_loaded, shown_at, seen, IsChainRun, ShowsLayers, KeepsKeys}
 use Rattle.laws_tables.specs.WholeStories.{IsServed, observed}
@@ -127,7 +128,17 @@ made_keeps (Trims g' place ∷ run) keeps a g group front back item h e = made_k
 made_keeps (Confirms g' start end groups metadata_end records ∷ run) keeps a g group front back item h e =
     made_keeps run keeps a g group front back item (showed_made MetaItem g' 0 metadata_end records (meta_of run) a g group h) e
 
--- so each load has all keys that the chain begins with
+-- so a load has the keys that the chain begins with
+load_keys : (b : Beginning) (run : Run) (g metadata_end : ℕ) (records : List (Placed (Group MetaItem))) → KeepsKeys run → IsServed (Showed g 0 metadata_end records ∷ meta_of run) →
+    KeepsOrder (Showed g 0 metadata_end records ∷ meta_of run) → (said b (line_shown records)).keys ≡ b.metadata.keys
+load_keys b run g metadata_end records keeps served order =
+    let load : StreamEvent (Group MetaItem) = Showed g 0 metadata_end records in
+    let story : MetadataStory = Showed g 0 metadata_end records ∷ meta_of run in
+    let items : List MetaItem = line_shown records in
+    line_keeps b.metadata items [] items refl (λ us vs item eq.
+    let f : ItemFrom MetaItem story served order (length (meta_of run)) g us item = item_from MetaItem story served order (length (meta_of run)) g 0 metadata_end records (newest (Group MetaItem) load (meta_of run)) us vs item eq in
+    made_keeps run keeps f.append f.generation f.of f.front f.back item (showed_made MetaItem g 0 metadata_end records (meta_of run) f.append f.generation f.of f.made) f.items)
+
 keys_kept : (b : Beginning) (rows : ℕ → List Row) (run : Run) → KeepsKeys run → IsServed (meta_of run) → KeepsOrder (meta_of run) → (l g s e : ℕ) (xs : List (Placed (Group Transaction))) →
     IsShownAt Transaction (log_of run) l g s e xs → (shown_at b rows run l).keys ≡ b.metadata.keys
 keys_kept b rows [] keeps served order l g s e xs h = absurd (cc)
@@ -140,22 +151,31 @@ keys_kept b rows (Recorded g' a from to ∷ run) keeps served order l g s e xs h
 keys_kept b rows (Trims g' place ∷ run) keeps served order l g s e xs h = keys_kept b rows run keeps served order l g s e xs h
 keys_kept b rows (Confirms g' start end groups metadata_end records ∷ run) keeps served order l g s e xs h =
     let load : StreamEvent (Group MetaItem) = Showed g' 0 metadata_end records in
-    let story : MetadataStory = Showed g' 0 metadata_end records ∷ meta_of run in
     let n : ℕ = length (log_of run) in
-    let items : List MetaItem = line_shown records in
-    let mine : ShownLoad = record { rows = rows l; keys = (said b items).keys; next = next_loaded b groups records } in
+    let mine : ShownLoad = record { rows = rows l; keys = (said b (line_shown records)).keys; next = next_loaded b groups records } in
     ⊎_elim {C = (cond (eqb l n) mine (shown_at b rows run l)).keys ≡ b.metadata.keys}
     (λ (q : (l ≡ n) × (g' ≡ g) × (groups ≡ xs)).
     let at : cond (eqb l n) mine (shown_at b rows run l) ≡ mine = ap (λ z. cond (eqb z n) mine (shown_at b rows run l)) q.0 ∙ ap (λ t. cond t mine (shown_at b rows run l)) (eq_test Event n) in
-    let each : (us vs : List MetaItem) (item : MetaItem) → items ≡ us ++ item ∷ vs → IsNoRange item = λ us vs item eq.
-    let f : ItemFrom MetaItem story served order (length (meta_of run)) g' us item = item_from MetaItem story served order (length (meta_of run)) g' 0 metadata_end records (newest (Group MetaItem) load (meta_of run)) us vs item eq in
-    made_keeps run keeps f.append f.generation f.of f.front f.back item (showed_made MetaItem g' 0 metadata_end records (meta_of run) f.append f.generation f.of f.made) f.items in
-    ap (λ (z : ShownLoad). z.keys) at ∙ line_keeps b.metadata items [] items refl each)
+    ap (λ (z : ShownLoad). z.keys) at ∙ load_keys b run g' metadata_end records keeps served order)
     (λ (o : IsShownAt Transaction (log_of run) l g s e xs).
     let low : l < n = bound (Group Transaction) (log_of run) l (Showed g s e xs) o in
     let at : cond (eqb l n) mine (shown_at b rows run l) ≡ shown_at b rows run l = ap (λ t. cond t mine (shown_at b rows run l)) (ne_test Event l n (λ (q : l ≡ n). omega arith)) in
     ap (λ (z : ShownLoad). z.keys) at ∙ keys_kept b rows run keeps served.1 (order_before (Group MetaItem) load (meta_of run) order) l g s e xs o)
     (shown_cases Transaction g' start end groups (log_of run) l g s e xs h)
+
+-- and so each that the first range has
+all_loads : (run : Run) → KeepsKeys run → IsServed (meta_of run) → KeepsOrder (meta_of run) → HasKeys all_keys run
+all_loads [] keeps served order = tt
+all_loads (Forms g x ∷ run) keeps served order = all_loads run keeps served order
+all_loads (Logged g a from to ∷ run) keeps served order = all_loads run keeps served order
+all_loads (Notes g ∷ run) keeps served order = all_loads run keeps served order
+all_loads (Records g number item ∷ run) keeps served order = all_loads run keeps.1 served.1 (order_before (Group MetaItem) (Made g (record_group number item)) (meta_of run) order)
+all_loads (Recorded g a from to ∷ run) keeps served order = all_loads run keeps served.1 (order_before (Group MetaItem) (Answered a from to) (meta_of run) order)
+all_loads (Trims g place ∷ run) keeps served order = all_loads run keeps served order
+all_loads (Confirms g start end groups metadata_end records ∷ run) keeps served order = (
+  load_keys first_beginning run g metadata_end records keeps served order,
+  all_loads run keeps served.1 (order_before (Group MetaItem) (Showed g 0 metadata_end records) (meta_of run) order),
+)
 
 -- ---- the law
 
@@ -179,6 +199,13 @@ module _ (layer_at : Place → Layer) where
       let keys : (shown_at first_beginning rows run l).keys ≡ all_keys = keys_kept first_beginning rows run keeps inv.metadata_served metadata_order l g shown.0 e shown.1 shown.2 in
       (inv.shows l g s e xs h).table key ∙ ap (λ z. kept z (after_line (line_shown xs) empty_table) key) keys ∙ kept_all (after_line (line_shown xs) empty_table) key)
       inv.served (whole_order (Group Transaction) (log_of run) order))
+
+  -- its loads have all keys
+  pub first_keys : (rows : ℕ → List Row) (run : Run) → IsChainRun layer_at first_beginning run → KeepsKeys run → ShowsLayers layer_at first_beginning rows run →
+      KeepsOrder (log_of run) → EndsRise (log_of run) → KeepsOrder (meta_of run) → HasKeys all_keys run
+  first_keys rows run ok keeps right order ends metadata_order =
+      let inv : Inv layer_at first_beginning rows order.copies run = inv_of layer_at first_beginning rows run first_begins ok right order ends (first_behind (log_of run) order) metadata_order in
+      all_loads run keeps inv.metadata_served metadata_order
 
   -- observations of extents may stand between those of tables
   pub tables_of_first_range_replay : (rows : ℕ → List Row) (run : Run) (h : List Note) → IsChainRun layer_at first_beginning run → KeepsKeys run → ShowsLayers layer_at first_beginning rows run →

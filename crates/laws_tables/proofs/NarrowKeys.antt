@@ -1,11 +1,10 @@
 -- The keys of a chain's metadata: no record names keys that the range did not have when it was sent, and each load shows the records in
 -- the order in which they were said; so the indexes and the regions of each load have all keys of the range.
-use Rattle.std.proofs.Common.{◌≡◌, ℕ, suc, ◌+◌, ◌<◌, List, [], ◌∷◌, ◌++◌, length, Bool, true, false, if◌then◌else◌, Option, Some, None, refl, sym, ap, ◌∙◌, subst, inl, inr, ◌⊎◌, ⊎_elim, arith, append_assoc}
+use Rattle.std.proofs.Common.{◌≡◌, ℕ, suc, ◌+◌, List, [], ◌∷◌, ◌++◌, length, Bool, true, false, if◌then◌else◌, Some, refl, sym, ap, ◌∙◌, subst, inl, inr, ◌⊎◌, ⊎_elim, arith, append_assoc}
 use Rattle.std.specs.List.{AllByRecursion}
 use Rattle.memtable.specs.declared.cell.Place.{Place}
 use Rattle.commitlog.specs.Replay.{Numbered as Group}
 use Rattle.metadata.specs.declared.record.IndexRange.{IndexRange}
-use Rattle.metadata.specs.declared.record.KeyRange.{KeyRange}
 use Rattle.metadata.specs.declared.record.MetaItem.{MetaItem}
 use Rattle.metadata.specs.declared.record.MetaItem.TheVariants.{Ranges, Checkpoint, Regions, SplitStatus}
 use Rattle.metadata.specs.declared.record.Region.{Region}

@@ -1,0 +1,260 @@
+-- A cluster stands on whatever a server does with a range that is being split: a rule of the range, an answer to its split, giving up, and
+-- the beginning of a split.
+use Rattle.std.proofs.Common.{◌≡◌, ℕ, suc, true, false, List, [], ◌++◌, Option, Some, None, Contains, refl, sym, ap, ◌∙◌, subst, inl, inr, arith, append-nil}
+use Rattle.wire.specs.declared.actor.ActorId.{ActorId}
+use Rattle.wire.specs.declared.actor.ActorId.TheVariants.{Server}
+use Rattle.wire.specs.declared.actor.ReqNo.{ReqNo}
+use Rattle.wire.specs.declared.body.Body.{Body}
+use Rattle.wire.specs.declared.body.Body.TheVariants as bodies
+use Rattle.wire.specs.declared.body.MapBody.TheVariants as maps
+use Rattle.wire.specs.declared.body.StreamBody.TheVariants as streams
+use Rattle.wire.specs.declared.packet.Packet.{Packet}
+use Rattle.wire.specs.declared.streams.StreamName.{StreamName}
+use Rattle.wire.specs.declared.transaction.Change.{Change}
+use Rattle.model_streams.specs.Maps.{entry_at}
+use Rattle.model_streams.specs.Outcome.{packet}
+use Rattle.client.specs.Client.{ClientState, reply_rule}
+use Rattle.client.specs.Requests.{is_same}
+use Rattle.model_streams.specs.StreamSystem.{StreamSystem}
+use Rattle.model_partition.specs.declared.split_job.Side.{Side}
+use Rattle.model_partition.specs.declared.split_job.Side.TheVariants.{Low}
+use Rattle.model_partition.specs.declared.stage.Stage.TheVariants as stages
+use Rattle.model_partition.specs.declared.split_job.SplitJob.{SplitJob}
+use Rattle.model_partition.specs.declared.split_job.SplitPhase.TheVariants as phases
+use Rattle.model_partition.specs.Answering.{answered_number, is_answerer, answer_rule, give_up_all}
+use Rattle.model_partition.specs.Cluster.{Cluster}
+use Rattle.model_partition.specs.Getting.{get_rule}
+use Rattle.model_partition.specs.Range.{RangeState, RangeOutcome, request, picking}
+use Rattle.model_partition.specs.Server.{ServerState, ServerOutcome, range_of, set_range, split_of, set_split, counted, stepped_splitting, split_stepped, given_up_splitting}
+use Rattle.model_partition.specs.Servers.{ServerCell}
+use Rattle.model_partition.specs.Serving.{transact_rule}
+use Rattle.model_partition.specs.Splits.{SplitStep, open_last, all_streams, new_split, split_rule, follows, phase_awaits, split_reply, says_keys, keys_reply, keys_again, gives_up}
+use Rattle.model_histories.specs.ServerRun.{ServerRun, RangeEffect, Does, Tells, Rests}
+use Rattle.model_histories.specs.StreamActions.{StreamAction, SideAction, keys_said, keys_told, split_sides, transact_actions, answer_actions, split_stood, followed_actions}
+use Rattle.laws_ranges.specs.Serves.{metadata_of, log_of}
+use Rattle.laws_ranges.specs.SplitJobs.{waits_seal, waits_call, TellsBuilt, LeavesKeys, SplitSees}
+use Rattle.laws_ranges.proofs.SplitBegins.{begins_split}
+use Rattle.laws_ranges.proofs.SplitReplies.{reply_split}
+use Rattle.laws_stream_machine.proofs.ServerRequests.{same_request}
+use Rattle.laws_clusters.proofs.Elsewhere.{BuildsAside}
+use Rattle.laws_clusters.proofs.RangeRules.{both, metadata_below, log_below}
+use Rattle.laws_clusters.proofs.RowSteps.{WasOut, IsNew}
+use Rattle.laws_clusters.proofs.MapWords.{IsFounded}
+use Rattle.laws_clusters.proofs.SplitRequests.{AllSent, BuildLeaves}
+use Rattle.laws_ranges.proofs.SplitsKept.{both_under, both_row_data}
+use Rattle.laws_servers.specs.Sending.{AllFromServers}
+use Rattle.laws_servers.proofs.ClientPackets.{from_servers}
+use Rattle.laws_servers.proofs.RangeSteps.{transact_tidy, get_tidy, answer_shows, give_up_tidy}
+use Rattle.laws_server_runs.specs.RunInvariant.{view_at}
+use Rattle.laws_clusters.proofs.Invariant.{m_side, l_side, Standing}
+use Rattle.laws_clusters.proofs.OtherEvents.{rule_done, run_done}
+use Rattle.laws_clusters.proofs.RowPurposes.{rows_unread}
+use Rattle.laws_clusters.proofs.RowRules.{LeavesRows, transact_leaves, get_leaves, answer_leaves, give_up_leaves}
+use Rattle.laws_clusters.proofs.ClientJobs.{ReadsNothing}
+use Rattle.laws_clusters.proofs.ServerRules.{AreLaid}
+use Rattle.laws_clusters.proofs.StepShapes.{RowsWaited, StepWaits}
+use Rattle.laws_clusters.proofs.SplitLeaves.{same_out, Leaves, leaves_none, reply_leaves, gives_up_leaves, begins_so}
+use Rattle.laws_servers.proofs.SplitSteps.{split_sends, split_reply_sends, split_gives_up_sends}
+use Rattle.laws_clusters.proofs.SplitBehind as behind
+use Rattle.laws_clusters.proofs.SplitBehind.{BuildsApart}
+use Rattle.laws_clusters.proofs.SplitPackets as one
+use Rattle.laws_clusters.proofs.SplitRules.{beside_step, acted, split_acted, transact_beside, get_beside, give_up_beside, answer_beside}
+use Rattle.laws_clusters.proofs.SplitStands as split
+
+module _ (generation : ℕ → ℕ) (nodes target : ℕ) (c : Cluster) (y : ServerRun) (x : Standing generation nodes target c y) (s : ℕ) (cell : ServerCell) (st : ServerState) (at : entry_at c.servers s ≡ Some cell) (is : cell.state ≡ Some st)
+    (range : ℕ) (r : RangeState) (found : range_of st.ranges range ≡ Some r) (job : SplitJob) (was : split_of st.splits range ≡ Some job) where
+  -- a rule of the server, which does this with streams, leaves a cluster that stands
+  abbrev pub Good : RangeEffect → ServerOutcome → Type 0
+  Good effect o = AreLaid (run_done c y s cell effect o) o.notes → Standing generation nodes target (rule_done c s cell o) (run_done c y s cell effect o)
+
+  abbrev Acts : RangeOutcome → List StreamAction → Type 0
+  Acts o actions = split.Does generation nodes target c y x s cell st at is range r found job was (beside_step job o) actions
+
+  under : generation (one.i generation nodes target c y x s cell st at is range r found (Some job) was) ≡ r.load.generation
+  under =
+      let i : ℕ = one.i generation nodes target c y x s cell st at is range r found (Some job) was in
+      sym (both_under generation range (one.w generation nodes target c y x s cell st at is range r found (Some job) was) i (m_side generation (x.machines range) i) (l_side generation (x.machines range) i) r (Some job)
+      (one.holds generation nodes target c y x s cell st at is range r found (Some job) was).follows)
+
+  -- What is owed besides of what a rule of the range leaves: nobody appends to its blob stream, so that the last extent of that is sealed;
+  -- and what the split is then to build leaves the streams of other ranges.
+  pub record Owed (o : RangeOutcome) : Type 0 where
+    pub blob : (next : RangeState) → o.after ≡ Some next → open_last next.blob_data.extents ≡ None
+    pub builds : (next : RangeState) → o.after ≡ Some next → BuildsApart c.stream_layer range (follows (counted st.context o) next job).job
+
+  -- a rule of the range, and what its split then does
+  rule_good : (o : RangeOutcome) (actions : List StreamAction) → Acts o actions → AllFromServers o.packets → LeavesRows st.context r.rows o → Owed o →
+      Good (Does range r.load.generation (followed_actions (counted st.context o) (Some job) o.after ++ actions)) (stepped_splitting st range job o o.after)
+  rule_good o actions acted senders left owed = go o.after refl
+    where
+      go : (a : Option RangeState) → o.after ≡ a → Good (Does range r.load.generation (followed_actions (counted st.context o) (Some job) a ++ actions)) (stepped_splitting st range job o a)
+      go None gone =
+          subst (λ g. Good (Does range g actions) (stepped_splitting st range job o None)) under
+          (λ laid. split.drop_stands generation nodes target c y x s cell st at is range r found job was o o.notes actions acted senders left gone laid)
+      go (Some next) there =
+          behind.follow_stands generation nodes target c y x s cell st at is range r found job was o actions acted senders left next there (owed.blob next there) (owed.builds next there)
+
+  -- ---- rules
+
+  abbrev i : ℕ
+  i = one.i generation nodes target c y x s cell st at is range r found (Some job) was
+
+  -- its streams are there
+  abbrev founded : IsFounded c.stream_layer range
+  founded = one.founded generation nodes target c y x s cell st at is range r found (Some job) was
+
+  pub transact_good : (from : ActorId) (q : ReqNo) (changes : List Change) → Owed (transact_rule st.context r from q changes) →
+      Good (Does range r.load.generation (followed_actions (counted st.context (transact_rule st.context r from q changes)) (Some job) (transact_rule st.context r from q changes).after ++ transact_actions r (transact_rule st.context r from q changes)))
+      (stepped_splitting st range job (transact_rule st.context r from q changes) (transact_rule st.context r from q changes).after)
+  transact_good from q changes owed =
+      let o : RangeOutcome = transact_rule st.context r from q changes in
+      rule_good o (transact_actions r o)
+      (transact_beside generation nodes target c y x range founded i st.context (one.sent_by generation nodes target c y x s cell st at is range r found (Some job) was) (view_at range y s)
+      (one.seen_here generation nodes target c y x s cell st at is range r found (Some job) was) r job (one.holds generation nodes target c y x s cell st at is range r found (Some job) was).follows
+      (one.past_rows generation nodes target c y x s cell st at is range r found (Some job) was) from q changes)
+      (from_servers o.packets (transact_tidy st.context r from q changes).0) (transact_leaves st.context r from q changes) owed
+
+  pub get_good : (from : ActorId) (q : ReqNo) (key : List ℕ) → Owed (get_rule st.context r from q key) →
+      Good (Does range r.load.generation (followed_actions (counted st.context (get_rule st.context r from q key)) (Some job) (get_rule st.context r from q key).after)) (stepped_splitting st range job (get_rule st.context r from q key) (get_rule st.context r from q key).after)
+  get_good from q key owed =
+      let o : RangeOutcome = get_rule st.context r from q key in
+      subst (λ l. Good (Does range r.load.generation l) (stepped_splitting st range job o o.after)) (append-nil (followed_actions (counted st.context o) (Some job) o.after))
+      (rule_good o []
+      (get_beside generation nodes target c y x range founded i st.context (one.sent_by generation nodes target c y x s cell st at is range r found (Some job) was) (view_at range y s)
+      (one.seen_here generation nodes target c y x s cell st at is range r found (Some job) was) r job (one.holds generation nodes target c y x s cell st at is range r found (Some job) was).follows
+      (one.past_rows generation nodes target c y x s cell st at is range r found (Some job) was) from q key)
+      (from_servers o.packets (get_tidy st.context r from q key).0) (get_leaves st.context r from q key) owed)
+
+  pub answer_good : (p : Packet) → Contains (one.w generation nodes target c y x s cell st at is range r found (Some job) was).post (packet p.from (Server s) p.body) → is_answerer p.from p.body ≡ true → (u : ReqNo) → answered_number p.body ≡ Some u →
+      Owed (answer_rule st.context r u p.body) →
+      Good
+      (Does range r.load.generation
+      (followed_actions (counted st.context (answer_rule st.context r u p.body)) (Some job) (answer_rule st.context r u p.body).after
+      ++ (split_stood st.context r (Some job) u p.body (answer_rule st.context r u p.body) ++ answer_actions st.context r u p.body (answer_rule st.context r u p.body))))
+      (stepped_splitting st range job (answer_rule st.context r u p.body) (answer_rule st.context r u p.body).after)
+  answer_good p there gives u number owed =
+      let o : RangeOutcome = answer_rule st.context r u p.body in
+      rule_good o (split_stood st.context r (Some job) u p.body o ++ answer_actions st.context r u p.body o)
+      (answer_beside generation nodes target c y x range founded i st.context (one.sent_by generation nodes target c y x s cell st at is range r found (Some job) was) (view_at range y s)
+      (one.seen_here generation nodes target c y x s cell st at is range r found (Some job) was) r job (one.holds generation nodes target c y x s cell st at is range r found (Some job) was).follows
+      (one.past_rows generation nodes target c y x s cell st at is range r found (Some job) was) (one.rows_asked generation nodes target c y x s cell st at is range r found (Some job) was) p.from s p.body there gives u number)
+      (from_servers o.packets (answer_shows st.context r u p.body).0) (answer_leaves st.context r u p.body) owed
+
+  -- ---- it gives up, and its split behind it
+
+  abbrev given : RangeOutcome
+  given = give_up_all st.context r
+
+  unread : ReadsNothing r.rows.job
+  unread =
+      let w : StreamSystem = one.w generation nodes target c y x s cell st at is range r found (Some job) was in
+      rows_unread range w (x.machines range).m_sent (x.machines range).l_sent r.rows.job
+      (both_row_data generation range w i (m_side generation (x.machines range) i) (l_side generation (x.machines range) i) r (Some job) (one.holds generation nodes target c y x s cell st at is range r found (Some job) was).follows).job
+
+  pub gave_acted : Acts given []
+  gave_acted =
+      give_up_beside generation nodes target c y x range founded i st.context (one.sent_by generation nodes target c y x s cell st at is range r found (Some job) was) (view_at range y s)
+      (one.seen_here generation nodes target c y x s cell st at is range r found (Some job) was) r job (one.holds generation nodes target c y x s cell st at is range r found (Some job) was).follows
+      (one.past_rows generation nodes target c y x s cell st at is range r found (Some job) was)
+
+  pub gave_from : AllFromServers given.packets
+  gave_from = from_servers given.packets (give_up_tidy st.context r).0
+
+  pub gave_left : LeavesRows st.context r.rows given
+  gave_left = give_up_leaves st.context r unread
+
+  -- what is owed besides: where keys are being appended, their append again; and what is then to be built leaves the streams of other ranges
+  pub record OwedLeaving (next : RangeState) (there : given.after ≡ Some next) : Type 0 where
+    pub keys : (side : Side) (k : ClientState) → job.phase ≡ phases.Keys side k →
+        behind.GoesOn generation nodes target c y x s cell st at is range r found job was given [] gave_acted gave_from gave_left next there (keys_again (counted st.context given) next job side k)
+    pub builds : BuildsApart c.stream_layer range (gives_up (counted st.context given) next job).job
+
+  pub give_up_good : ((next : RangeState) (there : given.after ≡ Some next) → OwedLeaving next there) → Good Rests (given_up_splitting st range job given given.after)
+  give_up_good owed = go given.after refl
+    where
+      go : (a : Option RangeState) → given.after ≡ a → Good Rests (given_up_splitting st range job given a)
+      go None gone = λ laid. split.drop_stands generation nodes target c y x s cell st at is range r found job was given given.notes [] gave_acted gave_from gave_left gone laid
+      go (Some next) there =
+          behind.leave_stands generation nodes target c y x s cell st at is range r found job was given [] gave_acted gave_from gave_left next there (owed next there).keys
+          (split_gives_up_sends (counted st.context given) next job) (gives_up_leaves (counted st.context given) next job) (owed next there).builds
+
+  -- ---- an answer to its split
+
+  -- what is so of a step of the split alone, which does this with the streams of the two ranges
+  abbrev pub Heard : SplitStep → List SideAction → Type 0
+  Heard t sides = AllFromServers t.packets → Leaves st.context r job t → BuildsApart c.stream_layer range t.job → Good (Tells job.generation sides) (split_stepped st range t)
+
+  heard : (t : SplitStep) → SplitSees generation range (one.w generation nodes target c y x s cell st at is range r found (Some job) was) i (view_at range y s) (m_side generation (x.machines range) i) (l_side generation (x.machines range) i) st.context t [] →
+      LeavesKeys st.context r job t → Heard t []
+  heard t sees keys sends leaves builds laid =
+      split.split_stands generation nodes target c y x s cell st at is range r found job was t [] []
+      (split_acted generation nodes target c y x range founded i st.context (one.sent_by generation nodes target c y x s cell st at is range r found (Some job) was) (view_at range y s)
+      (one.seen_here generation nodes target c y x s cell st at is range r found (Some job) was) r job (one.holds generation nodes target c y x s cell st at is range r found (Some job) was).follows
+      (one.past_rows generation nodes target c y x s cell st at is range r found (Some job) was) t sees (leaves_none st.context r job t leaves))
+      sends leaves keys.keys ((λ j apart. (there (metadata_of j) (builds.0 j apart).0, there (log_of j) (builds.0 j apart).1)), builds.1)
+      (set_range st.ranges range t.range) (one.shape_of generation nodes target c y x s cell st at is range r found (Some job) was t.range) (set_split st.splits range t.job)
+      (one.splits_of generation nodes target c y x s cell st at is range r found (Some job) was t.job) laid
+    where
+      there : (name : StreamName) → BuildLeaves name c.stream_layer t.job → BuildLeaves name (one.w generation nodes target c y x s cell st at is range r found (Some job) was) t.job
+      there name leaves_so = λ other has q at_build. subst (λ (w : StreamSystem). BuildsAside name w (bodies.Stream (streams.MultiModify (all_streams other) q))) (sym x.leads) (leaves_so other has q at_build)
+
+  -- What is owed besides: the numbers that the map gives are other ones, what is then to be built leaves the streams of other ranges, and
+  -- the appends of keys.
+  pub record OwedHearing (body : Body) : Type 0 where
+    pub numbered : (q : ReqNo) (low high : ℕ) → body ≡ bodies.Map (maps.SplitBegun q low high) → (low ≡ range → ⊥) × (high ≡ range → ⊥)
+    pub builds : BuildsApart c.stream_layer range (split_reply st.context r job body).job
+    pub says : TellsBuilt body → (q : ReqNo) → job.phase ≡ phases.Build q → Heard (says_keys st.context r job Low) (keys_said r job Low)
+    pub keys : (side : Side) (k : ClientState) → job.phase ≡ phases.Keys side k → Heard (keys_reply st.context r job side k body) (keys_told r job side k (reply_rule (picking st.context k) (request st.context) body).news)
+
+  pub reply_good : (p : Packet) → Contains (one.w generation nodes target c y x s cell st at is range r found (Some job) was).post (packet p.from (Server s) p.body) → is_answerer p.from p.body ≡ true → (u : ReqNo) → answered_number p.body ≡ Some u →
+      phase_awaits job.phase u ≡ true → OwedHearing p.body → Good (Tells job.generation (split_sides st.context r job p.body)) (split_stepped st range (split_reply st.context r job p.body))
+  reply_good p there gives u number waits owed =
+      reply_split generation range (one.w generation nodes target c y x s cell st at is range r found (Some job) was) i (both generation nodes target c y x range founded) (m_side generation (x.machines range) i) (l_side generation (x.machines range) i) st.context
+      (one.sent_by generation nodes target c y x s cell st at is range r found (Some job) was) (view_at range y s) r job (one.holds generation nodes target c y x s cell st at is range r found (Some job) was).follows
+      (one.past_rows generation nodes target c y x s cell st at is range r found (Some job) was) Heard heard u waits p.body owed.says (λ side k e. owed.keys side k e) number owed.numbered
+      ((metadata_below generation nodes target c y x range founded).mean p.from s p.body there gives) ((log_below generation nodes target c y x range founded).mean p.from s p.body there gives)
+      (split_reply_sends st.context r job p.body) (reply_leaves st.context r job p.body) owed.builds
+
+-- ---- a split begins
+
+module _ (generation : ℕ → ℕ) (nodes target : ℕ) (c : Cluster) (y : ServerRun) (x : Standing generation nodes target c y) (s : ℕ) (cell : ServerCell) (st : ServerState) (at : entry_at c.servers s ≡ Some cell) (is : cell.state ≡ Some st)
+    (range : ℕ) (r : RangeState) (found : range_of st.ranges range ≡ Some r) (was : split_of st.splits range ≡ None) (serves : r.stage ≡ stages.Serving) (key : List ℕ) where
+  abbrev begun : SplitStep
+  begun = split_rule st.context r key
+
+  abbrev begun_job : SplitJob
+  begun_job = new_split st.context r key
+
+  abbrev at_i : ℕ
+  at_i = one.i generation nodes target c y x s cell st at is range r found None was
+
+  begun_acted : one.Does generation nodes target c y x s cell st at is range r found None was begun []
+  begun_acted =
+      let there : IsFounded c.stream_layer range = one.founded generation nodes target c y x s cell st at is range r found None was in
+      acted generation nodes target c y x range there at_i st.context (view_at range y s) begun []
+      (begins_split generation range (one.w generation nodes target c y x s cell st at is range r found None was) at_i (both generation nodes target c y x range there) (m_side generation (x.machines range) at_i) (l_side generation (x.machines range) at_i) st.context
+      (one.sent_by generation nodes target c y x s cell st at is range r found None was) (view_at range y s) r serves (one.holds generation nodes target c y x s cell st at is range r found None was).follows key)
+      (λ e. absurd (let z : Some begun_job ≡ None = e in cc)) tt (one.seen_here generation nodes target c y x s cell st at is range r found None was)
+
+  begun_waits : StepWaits st range begun begun.packets
+  begun_waits next is_next =
+      let same : r ≡ next = cc in
+      record {
+        rows = λ q waits. inl (waited next same q);
+        seal = λ later e q waits. absurd (let job_is : begun_job ≡ later = cc in let z : false ≡ true = ap (λ (j : SplitJob). waits_seal j.phase q) job_is ∙ waits in cc);
+        call = λ later e q waits. inr (let job_is : begun_job ≡ later = cc in new_call q (ap (λ (j : SplitJob). waits_call j.phase q) job_is ∙ waits));
+        steady = inl (λ q waits. waited next same q);
+        sent = subst (λ (z : RangeState). AllSent z (Some begun_job) begun.packets) same (begins_so st.context r key);
+      }
+    where
+      waited : (next : RangeState) → r ≡ next → (q : ReqNo) → RowsWaited st range next q
+      waited next same q = (r, found, subst (λ (z : RangeState). WasOut r.rows z.rows) same (same_out r.rows))
+
+      new_call : (q : ReqNo) → is_same (request st.context) q ≡ true → IsNew st.context (suc st.context.count) q
+      new_call q same = (st.context.count, omega arith, omega arith, sym (same_request (request st.context) q same))
+
+  pub begins_good : AreLaid (run_done c y s cell Rests (split_stepped st range begun)) [] → Standing generation nodes target (rule_done c s cell (split_stepped st range begun)) (run_done c y s cell Rests (split_stepped st range begun))
+  begins_good laid =
+      one.step_stands generation nodes target c y x s cell st at is range r found None was begun [] [] begun_acted (split_sends st.context r key) begun_waits (λ e. absurd (let z : Some r ≡ None = e in cc)) (λ e. absurd (let z : Some r ≡ None = e in cc))
+      ((λ j apart. ((tt, tt), (tt, tt))), (tt, tt)) (set_range st.ranges range (Some r)) (one.shape_of generation nodes target c y x s cell st at is range r found None was (Some r)) (set_split st.splits range (Some begun_job))
+      (one.splits_of generation nodes target c y x s cell st at is range r found None was (Some begun_job)) laid

@@ -1,0 +1,182 @@
+-- What a step of a range at a server leaves: of its ranges and its splits, and of what they wait for.
+use Rattle.std.proofs.Common.{◌≡◌, subst, ◌++◌, ◌⊎◌, ⊎_elim, ℕ, suc, ◌<◌, Bool, true, false, List, [], ◌∷◌, length, Option, Some, None, Contains, refl, sym, ap, ◌∙◌, inl, inr, arith, if◌then◌else◌, ◌==◌, ◌&&◌}
+use Rattle.std.proofs.lemmas.Bool.{cases_lt}
+use Rattle.std.proofs.lemmas.Bool.Decides.{nat_tests}
+use Rattle.wire.specs.declared.actor.ReqNo.{ReqNo}
+use Rattle.wire.specs.declared.actor.ReqNo.TheVariants as requests
+use Rattle.wire.specs.declared.body.Body.{Body}
+use Rattle.wire.specs.declared.body.Body.TheVariants as bodies
+use Rattle.wire.specs.declared.body.MapBody.TheVariants as maps
+use Rattle.wire.specs.declared.body.StreamBody.TheVariants as streams
+use Rattle.wire.specs.declared.packet.Packet.{Packet}
+use Rattle.wire.specs.declared.streams.StreamName.{StreamName}
+use Rattle.client.specs.Client.{awaits}
+use Rattle.model_partition.specs.declared.server_context.ServerContext.{ServerContext}
+use Rattle.model_partition.specs.declared.split_job.SplitJob.{SplitJob}
+use Rattle.model_partition.specs.declared.table_note.TableNote.{TableNote}
+use Rattle.model_partition.specs.declared.table_note.TableNote.TheVariants as tables
+use Rattle.model_partition.specs.Servers.{ArePlain}
+use Rattle.model_histories.specs.StreamActions.{PlacedBytes}
+use Rattle.laws_clusters.proofs.ObservedBytes.{tables_behind}
+use Rattle.model_streams.specs.StreamSystem.{StreamSystem}
+use Rattle.model_partition.specs.Past.{Bytes}
+use Rattle.model_partition.specs.Range.{RangeState}
+use Rattle.model_partition.specs.Server.{ServerState, range_of, split_of}
+use Rattle.model_partition.specs.Splits.{SplitStep, all_streams}
+use Rattle.model_histories.specs.ServedTables.{StreamsInOrder}
+use Rattle.model_histories.specs.ServerRun.{ServerRun}
+use Rattle.laws_stream_machine.specs.Refinement.{Purpose, Sent, purpose_of}
+use Rattle.laws_ranges.specs.Serves.{Side, sent_with, Adds, AreUnused}
+use Rattle.laws_ranges.specs.SplitJobs.{waits_seal, waits_call}
+use Rattle.laws_ranges.proofs.MachineSteps.{newest}
+use Rattle.laws_server_runs.specs.Places.{AreAscending, TablesWithin, bytes_of}
+use Rattle.laws_server_runs.proofs.Actions.{same_test, other_test}
+use Rattle.laws_clusters.proofs.Invariant.{Machines, HasNumber, HasNone, IsSplitAsk}
+use Rattle.laws_clusters.proofs.Elsewhere.{none_of, IsRowsElse, AreRowsElse}
+use Rattle.laws_clusters.proofs.RowSteps.{WasOut, IsNew}
+use Rattle.laws_clusters.proofs.SplitRequests.{AllSent}
+
+-- this run, but for what a server has read of a range
+pub record IsNear (s range : ℕ) (y b : ServerRun) : Type 0 where
+  pub history : (t j : ℕ) → ((t == s) && (j == range)) ≡ false → b.history t j ≡ y.history t j
+  pub story : (name : StreamName) → b.story name ≡ y.story name
+  pub shown : (j : ℕ) → b.shown j ≡ y.shown j
+  pub answered : (j : ℕ) → b.answered j ≡ y.answered j
+  pub notes : b.notes ≡ y.notes
+
+-- where the streams of a run are in order, the tables that its servers show lie within what was shown and answered
+abbrev pub IsLaid : ServerRun → Type 0
+IsLaid y = (texts : ℕ → Bytes) → ((range : ℕ) → StreamsInOrder texts range y) → TablesWithin texts (bytes_of y) y.notes
+
+-- the same of those that are shown now
+abbrev pub AreLaid : ServerRun → List TableNote → Type 0
+AreLaid y notes = (texts : ℕ → Bytes) → ((range : ℕ) → StreamsInOrder texts range y) → TablesWithin texts (bytes_of y) notes
+
+pub laid_behind : (y : ServerRun) (before notes : List TableNote) → y.notes ≡ before ++ notes → IsLaid y → AreLaid y notes
+laid_behind y before notes is laid texts order = tables_behind texts (bytes_of y) before notes (subst (λ ns. TablesWithin texts (bytes_of y) ns) is (laid texts order))
+
+plain_within : (texts : ℕ → Bytes) (placed : ℕ → List PlacedBytes) (notes : List TableNote) → ArePlain notes → TablesWithin texts placed notes
+plain_within texts placed [] plain = tt
+plain_within texts placed (tables.Began range generation number changes ∷ notes) plain = plain_within texts placed notes plain
+plain_within texts placed (tables.Done range generation number ∷ notes) plain = plain_within texts placed notes plain
+plain_within texts placed (tables.Loaded range generation table next ∷ notes) plain = absurd plain
+
+-- so it is where no table is shown
+pub plain_laid : (y : ServerRun) (notes : List TableNote) → ArePlain notes → AreLaid y notes
+plain_laid y notes plain texts order = plain_within texts (bytes_of y) notes plain
+
+-- of a server's ranges one is left so, and all others are as before
+pub record AreLeft (before after : List (ℕ × RangeState)) (range : ℕ) (o : Option RangeState) : Type 0 where
+  pub ascending : AreAscending after
+  pub here : (r : RangeState) → range_of after range ≡ Some r → o ≡ Some r
+  pub there : (r : RangeState) → o ≡ Some r → range_of after range ≡ Some r
+  pub others : (j : ℕ) → (j ≡ range → ⊥) → range_of after j ≡ range_of before j
+
+-- of its splits the one of that range is left so, and all others are as before
+pub record SplitsLeft (before after : List (ℕ × SplitJob)) (range : ℕ) (o : Option SplitJob) : Type 0 where
+  pub ascending : AreAscending after
+  pub here : split_of after range ≡ o
+  pub others : (j : ℕ) → (j ≡ range → ⊥) → split_of after j ≡ split_of before j
+
+-- what was asked for one split is asked for the other
+pub record KeepsAsks (job later : SplitJob) : Type 0 where
+  pub range : later.range ≡ job.range
+  pub generation : later.generation ≡ job.generation
+  pub key : later.key ≡ job.key
+  pub streams : all_streams later ≡ all_streams job
+
+pub keep_asks : (job later : SplitJob) → KeepsAsks job later → (body : Body) → IsSplitAsk job body → IsSplitAsk later body
+keep_asks job later k (bodies.Stream (streams.MultiModify list q)) a = a ∙ sym k.streams
+keep_asks job later k (bodies.Stream body) a = tt
+keep_asks job later k (bodies.Map (maps.BeginSplit range generation key q)) a = (a.0 ∙ sym k.range, a.1 ∙ sym k.generation, a.2 ∙ sym k.key)
+keep_asks job later k (bodies.Map (maps.CompleteSplit range generation q)) a = (a.0 ∙ sym k.range, a.1 ∙ sym k.generation)
+keep_asks job later k (bodies.Map body) a = tt
+keep_asks job later k body a = tt
+
+-- the number that row data waits under it waited under before
+abbrev pub RowsWaited : ServerState → ℕ → RangeState → ReqNo → Type 0
+RowsWaited st range next q = (r : RangeState) × (range_of st.ranges range ≡ Some r) × WasOut r.rows next.rows
+
+-- so does its split
+abbrev pub SealWaited : ServerState → ℕ → ReqNo → Type 0
+SealWaited st range q = (job : SplitJob) × (split_of st.splits range ≡ Some job) × (waits_seal job.phase q ≡ true)
+
+abbrev pub CallWaited : ServerState → ℕ → SplitJob → ReqNo → Type 0
+CallWaited st range later q = (job : SplitJob) × (split_of st.splits range ≡ Some job) × (waits_call job.phase q ≡ true) × KeepsAsks job later
+
+-- What a range that a step leaves waits for with its row data or its split it waited for before, or under a number that was not used;
+-- and each request is that of a job.
+pub record WaitsAfter (st : ServerState) (range : ℕ) (t : SplitStep) (ps : List Packet) (next : RangeState) : Type 0 where
+  pub rows : (q : ReqNo) → awaits next.rows.job q ≡ true → RowsWaited st range next q ⊎ IsNew st.context t.count q
+  pub seal : (later : SplitJob) → t.job ≡ Some later → (q : ReqNo) → waits_seal later.phase q ≡ true → SealWaited st range q ⊎ IsNew st.context t.count q
+  pub call : (later : SplitJob) → t.job ≡ Some later → (q : ReqNo) → waits_call later.phase q ≡ true → CallWaited st range later q ⊎ IsNew st.context t.count q
+  -- the step is one of its row data, or one of its split
+  pub steady : ((q : ReqNo) → awaits next.rows.job q ≡ true → RowsWaited st range next q)
+      ⊎ ((later : SplitJob) → t.job ≡ Some later → (q : ReqNo) → (waits_seal later.phase q ≡ true → SealWaited st range q) × (waits_call later.phase q ≡ true → CallWaited st range later q))
+  pub sent : AllSent next t.job ps
+
+abbrev pub StepWaits : ServerState → ℕ → SplitStep → List Packet → Type 0
+StepWaits st range t ps = (next : RangeState) → t.range ≡ Some next → WaitsAfter st range t ps next
+
+-- the number of a request that has a purpose is below the next one
+pub below_next : (d : ServerContext) (count : ℕ) (sent more : List Sent) → AreUnused d count more → (a : Adds d sent more) → (p : Purpose) → a.purpose ≡ Some p → a.number < count
+below_next d count sent more unused a p some =
+    ⊎_elim {C = a.number < count} (λ less. less)
+    (λ le.
+    (let q : ReqNo = requests.Server d.server d.session a.number in
+    let none : purpose_of more q ≡ None = unused a.number le in
+    let there : purpose_of more q ≡ Some p = ap (λ z. purpose_of z q) (a.is ∙ ap (λ o. sent_with q o sent) some) ∙ newest q p sent in
+    absurd (let z : None ≡ Some p = sym none ∙ there in cc)))
+    (cases_lt a.number count)
+
+-- ---- tests of a server and a range
+
+not_second : (a b : Bool) → b ≡ false → (a && b) ≡ false
+not_second true b e = e
+not_second false b e = refl
+
+pub other_range : (t s j range : ℕ) → (j ≡ range → ⊥) → ((t == s) && (j == range)) ≡ false
+other_range t s j range apart = not_second (t == s) (j == range) (other_test j range apart)
+
+pub other_server : (t s j range : ℕ) → (t ≡ s → ⊥) → ((t == s) && (j == range)) ≡ false
+other_server t s j range apart = ap (λ a. a && (j == range)) (other_test t s apart)
+
+-- ---- incarnations of ranges at servers
+
+abbrev pub with_one : (ℕ → ℕ → Option ℕ) → ℕ → ℕ → ℕ → ℕ → ℕ → Option ℕ
+with_one o s range i t j = if (t == s) && (j == range) then Some i else o t j
+
+pub one_here : (o : ℕ → ℕ → Option ℕ) (s range i : ℕ) → with_one o s range i s range ≡ Some i
+one_here o s range i = ap (λ b. if b && (range == range) then Some i else o s range) (same_test s) ∙ ap (λ b. if b then Some i else o s range) (same_test range)
+
+pub one_other : (o : ℕ → ℕ → Option ℕ) (s range i t j : ℕ) → ((t == s) && (j == range)) ≡ false → with_one o s range i t j ≡ o t j
+one_other o s range i t j test = ap (λ b. if b then Some i else o t j) test
+
+-- whose it is
+pub whose : (o : ℕ → ℕ → Option ℕ) (s range i t j k : ℕ) → with_one o s range i t j ≡ Some k → ((t ≡ s) × (j ≡ range) × (i ≡ k)) ⊎ (o t j ≡ Some k)
+whose o s range i t j k e = go (t == s) (j == range) refl refl e
+  where
+    go : (a b : Bool) → (t == s) ≡ a → (j == range) ≡ b → (if a && b then Some i else o t j) ≡ Some k → ((t ≡ s) × (j ≡ range) × (i ≡ k)) ⊎ (o t j ≡ Some k)
+    go true true one two z = inl (grind (arith, nat_tests), grind (arith, nat_tests), cc)
+    go true false one two z = inr z
+    go false b one two z = inr z
+
+-- ---- numbers and packets
+
+module _ (generation : ℕ → ℕ) where
+  -- a number of both lists, or of one
+  pub has_number : (z : Machines generation) (q : ReqNo) → (purpose_of z.m_sent q ≡ None → purpose_of z.l_sent q ≡ None → ⊥) → HasNumber generation z q
+  has_number z q known = go (purpose_of z.m_sent q) (purpose_of z.l_sent q) refl refl
+    where
+      go : (a b : Option Purpose) → purpose_of z.m_sent q ≡ a → purpose_of z.l_sent q ≡ b → HasNumber generation z q
+      go (Some p) b one two = (p, inl one)
+      go None (Some p) one two = (p, inr two)
+      go None None one two = absurd (known one two)
+
+  pub has_none : (z : Machines generation) (q : ReqNo) → (HasNumber generation z q → ⊥) → HasNone generation z q
+  has_none z q not = (none_of z.m_sent q (λ p e. not (p, inl e)), none_of z.l_sent q (λ p e. not (p, inr e)))
+
+  -- what is so of each of some packets makes a list
+  pub all_else : (range i : ℕ) (w : StreamSystem) (n k : Side) (sent : List Sent) (ps : List Packet) → ((p : Packet) → Contains ps p → IsRowsElse generation range w i n k sent p.body) → AreRowsElse generation range w i n k sent ps
+  all_else range i w n k sent [] each = tt
+  all_else range i w n k sent (p ∷ ps) each = (each p (0, omega arith, refl), all_else range i w n k sent ps (λ q there. each q (suc there.0, (let less : there.0 < length ps = there.1 in omega arith), there.2)))
