@@ -1,5 +1,5 @@
 -- A cluster stands on where the manager builds the streams of the two ranges of a split, and servers are told of it.
-use Rattle.std.proofs.Common.{◌≡◌, ◌⊎◌, ℕ, ◌≤◌, ◌<◌, Bool, true, false, ◌||◌, ◌==◌, List, [], ◌∷◌, Some, None, slice_get, Contains, refl, sym, ap, ◌∙◌, subst, inl, inr, arith, if◌then◌else◌}
+use Rattle.std.proofs.Common.{◌≡◌, ◌⊎◌, ℕ, ◌≤◌, ◌<◌, Bool, true, false, ◌||◌, ◌==◌, List, [], ◌∷◌, ◌++◌, Some, None, slice_get, Contains, refl, sym, ap, ◌∙◌, subst, inl, inr, arith, if◌then◌else◌}
 use Rattle.std.proofs.lemmas.Bool.{or_parts, eqb-true}
 use Rattle.std.proofs.lemmas.Bool.Decides.{nat_tests}
 use Rattle.wire.specs.declared.actor.ActorId.TheVariants.{Server}
@@ -18,7 +18,7 @@ use Rattle.model_streams.specs.StreamSystem.{StreamSystem, happens}
 use Rattle.model_partition.specs.Cluster.{Cluster}
 use Rattle.model_partition.specs.declared.split_job.SplitJob.{SplitJob}
 use Rattle.model_partition.specs.Splits.{built_stream, all_streams}
-use Rattle.model_histories.specs.ServerRun.{ServerRun, ServerEvent, own_or, stream_named, after_event}
+use Rattle.model_histories.specs.ServerRun.{ServerRun, ServerEvent, Builds, own_or, stream_named, log_name, after_event}
 use Rattle.model_histories.specs.ServerRun as runs
 use Rattle.model_histories.specs.Story.{Story}
 use Rattle.model_histories.specs.ServerTurns.{after_all}
@@ -30,10 +30,11 @@ use Rattle.laws_streams.proofs.ListRules.{IsBuiltOf}
 use Rattle.laws_ranges.specs.Serves.{metadata_of, log_of}
 use Rattle.laws_clusters.specs.ServerEvents.{built_events}
 use Rattle.laws_clusters.proofs.BuildEvents.{built_in, Takes, BuildsNow}
-use Rattle.laws_clusters.proofs.Invariant.{Machines, IsToBe, IsStream, IsBeside, there_below, absent_to_be, here, Standing}
+use Rattle.laws_clusters.proofs.Invariant.{Machines, IsToBe, IsStream, IsBeside, there_below, absent_to_be, here, Standing, Bases}
 use Rattle.laws_clusters.proofs.RangeStreams.{HasStreams, IsOfSplit}
+use Rattle.laws_clusters.proofs.SharedLogs.{SharesLog, two_builds}
 use Rattle.laws_clusters.proofs.StreamFates.{event_stays, event_builds, nobody_asks, copy_below}
-use Rattle.laws_clusters.proofs.StreamLayerSteps.{IsBuiltRun, later, has_here, one, Unbuilt, gone_on, gone_beside, BuildsSides, event_stands}
+use Rattle.laws_clusters.proofs.StreamLayerSteps.{IsBuiltRun, later, has_here, one, Unbuilt, gone_on, gone_beside, BuildsSides, next_machines, sides_share, event_machines, event_stands}
 
 -- ---- the run of the servers
 
@@ -125,6 +126,24 @@ abbrev pub after_events : ServerRun → List ServerEvent → ServerRun
 after_events y [] = y
 after_events y (event ∷ earlier) = after_event (after_events y earlier) event
 
+-- a range that is built has the log of its source as it stands then
+abbrev pub NowShares : (generation : ℕ → ℕ) → ServerRun → (ℕ → Machines generation) → List ServerEvent → Type 0
+NowShares generation y machines events =
+    (late early : List ServerEvent) (source range : ℕ) → events ≡ late ++ Builds source range ∷ early → SharesLog generation machines source range ((after_events y early).story (log_name source))
+
+-- where nothing is built
+pub none_share : (generation : ℕ → ℕ) (y : ServerRun) (machines : ℕ → Machines generation) → NowShares generation y machines []
+none_share generation y machines [] early source range e = absurd cc
+none_share generation y machines (event ∷ late) early source range e = absurd cc
+
+-- what is built changes nothing of its source
+source_stays : (y : ServerRun) (source range : ℕ) → (runs.built_streams source range y).story (log_name source) ≡ y.story (log_name source)
+source_stays y source range = go (source == range)
+  where
+    go : (t : Bool) → (if t then own_or (y.story (log_name source)) (y.story (log_name source)) else y.story (log_name source)) ≡ y.story (log_name source)
+    go true = own_twice (y.story (log_name source))
+    go false = refl
+
 -- ---- the streams of a split
 
 -- its entries are of the two ranges, each of one stream of the range that is split
@@ -187,7 +206,7 @@ module _ (job : SplitJob) where
 
 -- ---- the cluster
 
-module _ (generation : ℕ → ℕ) (nodes target : ℕ) (c : Cluster) (y : ServerRun) (x : Standing generation nodes target c y) (event : Event) where
+module _ (generation : ℕ → ℕ) (nodes target : ℕ) {base : Bases generation} (c : Cluster) (y : ServerRun) (x : Standing generation nodes target base c y) (event : Event) where
   abbrev w : StreamSystem
   w = here generation nodes target x.moves
 
@@ -195,7 +214,7 @@ module _ (generation : ℕ → ℕ) (nodes target : ℕ) (c : Cluster) (y : Serv
   v = here generation nodes target (later generation nodes target c y x event)
 
   abbrev Next : ServerRun → Type 0
-  Next z = Standing generation nodes target (record c { stream_layer = happens c.stream_layer event }) z
+  Next z = Standing generation nodes target base (record c { stream_layer = happens c.stream_layer event }) z
 
   built_here : built_in w event ≡ built_in c.stream_layer event
   built_here = ap (λ (u : StreamSystem). built_in u event) x.leads
@@ -311,17 +330,45 @@ module _ (generation : ℕ → ℕ) (nodes target : ℕ) (c : Cluster) (y : Serv
               (x.machines j).l (x.machines j).l_sent ((x.beside j).log (side_counted job side_numbers j side));
         }
 
-    sides_stand : Next (runs.built_streams job.range job.high (runs.built_streams job.range job.low y))
-    sides_stand =
-        event_stands generation nodes target c y x event (sides job) job.range builds_sides (runs.built_streams job.range job.high (runs.built_streams job.range job.low y))
-        (is_built_run y job.range job.low job.high (or_parts (job.range == job.low) (job.range == job.high) parent_apart).0)
+    abbrev half_built : ServerRun
+    half_built = runs.built_streams job.range job.low y
+
+    abbrev are_built : IsBuiltRun y (runs.built_streams job.range job.high half_built) (sides job) job.range
+    are_built = is_built_run y job.range job.low job.high (or_parts (job.range == job.low) (job.range == job.high) parent_apart).0
+
+    abbrev sides_stand : Next (runs.built_streams job.range job.high half_built)
+    sides_stand = event_stands generation nodes target c y x event (sides job) job.range builds_sides (runs.built_streams job.range job.high half_built) are_built
+
+    -- the logs of both are that of the parent
+    sides_shared : NowShares generation y sides_stand.machines (Builds job.range job.high ∷ Builds job.range job.low ∷ [])
+    sides_shared =
+        two_builds (λ source range early. SharesLog generation sides_stand.machines source range ((after_events y early).story (log_name source))) job.range job.low job.high
+        (shared job.high (ap (λ t. (job.high == job.low) || t) (same_number job.high) ∙ or_true (job.high == job.low)) (half_built.story (log_name job.range)) (source_stays half_built job.range job.high))
+        (shared job.low (ap (λ t. t || (job.low == job.high)) (same_number job.low)) (y.story (log_name job.range)) (source_stays half_built job.range job.high ∙ source_stays y job.range job.low))
+      where
+        machine_is : (j : ℕ) → sides_stand.machines j ≡ next_machines generation nodes target c y x event (sides job) job.range builds_sides (runs.built_streams job.range job.high half_built) are_built j
+        machine_is j = event_machines generation nodes target c y x event (sides job) job.range builds_sides (runs.built_streams job.range job.high half_built) are_built j
+
+        log_is : (j : ℕ) → sides job j ≡ true → (sides_stand.machines j).l ≡ (sides_stand.machines job.range).l
+        log_is j is =
+            ap (λ (m : Machines generation). m.l) (machine_is j)
+            ∙ sides_share generation nodes target c y x event (sides job) job.range builds_sides (runs.built_streams job.range job.high half_built) are_built parent_apart j is
+            ∙ sym (ap (λ (m : Machines generation). m.l) (machine_is job.range))
+
+        shared : (j : ℕ) → sides job j ≡ true → (story : Story Group) → (runs.built_streams job.range job.high half_built).story (log_name job.range) ≡ story → SharesLog generation sides_stand.machines job.range j story
+        shared j is story same = record {
+          moves = (sides_stand.machines job.range).l;
+          source_grew = ([], refl);
+          range_grew = ([], log_is j is);
+          story_is = sym (sides_stand.stories.log_is job.range) ∙ same;
+        }
 
   abbrev Told : List Modify → Type 0
-  Told list = Next (after_events y (built_events list))
+  Told list = (stands : Next (after_events y (built_events list))) × NowShares generation y stands.machines (built_events list)
 
-  -- Whatever the event builds, servers are told of it.
-  pub builds_stand : Next (after_events y (built_events (built_in c.stream_layer event)))
-  builds_stand = by_list (built_in w event) refl
+  -- Whatever the event builds, servers are told of it, and it has the logs of what it was built of.
+  pub builds_share : Told (built_in c.stream_layer event)
+  builds_share = by_list (built_in w event) refl
     where
       as_told : Told (built_in w event) → Told (built_in c.stream_layer event)
       as_told = subst Told built_here
@@ -329,11 +376,17 @@ module _ (generation : ℕ → ℕ) (nodes target : ℕ) (c : Cluster) (y : Serv
       some_stand : (m : Modify) → Contains (built_in w event) m → Takes w (built_in w event) v → Told (built_in w event)
       some_stand m among takes =
           let old : IsOfSplit c.stream_layer (built_in w event) = x.lists takes.server takes.to (built_in w event) takes.request (subst (λ (u : StreamSystem). Contains u.post (packet (Server takes.server) takes.to (bodies.Stream (MultiModify (built_in w event) takes.request)))) x.leads takes.asked) m among in
-          subst Told (sym old.is) (sides_stand old.job old.is old.counted old.sides (has_here generation nodes target c y x event old.job.range old.streams) takes)
+          subst Told (sym old.is) (
+            sides_stand old.job old.is old.counted old.sides (has_here generation nodes target c y x event old.job.range old.streams) takes,
+            sides_shared old.job old.is old.counted old.sides (has_here generation nodes target c y x event old.job.range old.streams) takes,
+          )
 
       by_list : (list : List Modify) → built_in w event ≡ list → Told (built_in c.stream_layer event)
-      by_list [] is = subst Told (sym is ∙ built_here) (happens_stands (sym built_here ∙ is))
+      by_list [] is = subst Told (sym is ∙ built_here) (happens_stands (sym built_here ∙ is), none_share generation y (happens_stands (sym built_here ∙ is)).machines)
       by_list (m ∷ list) is = elim (event_builds generation nodes target x.moves event (one generation nodes target c y x event)).taken [
         | inl none ↦ absurd (let c : [] ≡ m ∷ list = sym none ∙ is in cc)
         | inr takes ↦ as_told (some_stand m (subst (λ l. Contains l m) (sym is) (0, omega arith, refl)) takes)
       ]
+
+  pub builds_stand : Next (after_events y (built_events (built_in c.stream_layer event)))
+  builds_stand = builds_share.0

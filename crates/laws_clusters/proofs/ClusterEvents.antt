@@ -18,7 +18,7 @@ use Rattle.laws_clusters.specs.ServerEvents.{built_events, packet_events, delive
 use Rattle.laws_clusters.proofs.BuildEvents.{built_at, built_if, built_in}
 use Rattle.laws_clusters.proofs.BuiltRanges.{after_events, happens_stands, builds_stand}
 use Rattle.laws_clusters.proofs.Generations.{generation_at, plenty}
-use Rattle.laws_clusters.proofs.Invariant.{Standing}
+use Rattle.laws_clusters.proofs.Invariant.{Standing, Bases}
 use Rattle.laws_clusters.proofs.MapSteps.{map_takes_stand, assigns_stand, renews_stand, map_stops_stand, map_starts_stand}
 use Rattle.laws_clusters.proofs.MapWords.{Completes}
 use Rattle.laws_clusters.proofs.OtherEvents.{stops_stand, starts_stand, moment_stands}
@@ -34,10 +34,10 @@ module _ (nodes target batch count : ℕ) where
   abbrev run : List ServerEvent → ServerRun
   run coming = run_of batch count coming
 
-  abbrev Stands : Cluster → List ServerEvent → Type 0
-  Stands c coming = Standing generation_at nodes target c (run coming)
+  abbrev Stands : Bases generation_at → Cluster → List ServerEvent → Type 0
+  Stands base c coming = Standing generation_at nodes target base c (run coming)
 
-  module _ (c : Cluster) (coming : List ServerEvent) (x : Stands c coming) where
+  module _ {base : Bases generation_at} (c : Cluster) (coming : List ServerEvent) (x : Stands base c coming) where
     abbrev y : ServerRun
     y = run coming
 
@@ -59,62 +59,62 @@ module _ (nodes target batch count : ℕ) where
     EventOwes (Deliver number) = (p : Packet) → slice_get c.stream_layer.post number ≡ Some p → PacketOwes p p.to
     EventOwes (GiveUp s range pick) = SplittingGivesUpThen generation_at plenty nodes target c y x whole s range pick × IsLaid (run (GivesUp s range pick ∷ coming))
     EventOwes (Checkpoint s range combine) = IsLaid (run (Checkpoints s range combine ∷ coming))
-    EventOwes (Split s range key) = Stands (cluster_after c (Split s range key)) (Splits s range key ∷ coming)
+    EventOwes (Split s range key) = Stands base (cluster_after c (Split s range key)) (Splits s range key ∷ coming)
     EventOwes event = Unit {0}
 
     -- ---- events
 
-    delivers_on : (number : ℕ) → EventOwes (Deliver number) → (o : Option Packet) → slice_get c.stream_layer.post number ≡ o → Stands (delivers c o) (delivery_events c o ++ coming)
+    delivers_on : (number : ℕ) → EventOwes (Deliver number) → (o : Option Packet) → slice_get c.stream_layer.post number ≡ o → Stands base (delivers c o) (delivery_events c o ++ coming)
     delivers_on number owes None at = x
     delivers_on number owes (Some p) at = go p.to refl (owes p at)
       where
         built_is : (to : ActorId) → p.to ≡ to → built_in c.stream_layer (Deliver number) ≡ built_at c.stream_layer p to
         built_is to is = ap (built_if c.stream_layer) at ∙ ap (built_at c.stream_layer p) is
 
-        layer_takes : (to : ActorId) → p.to ≡ to → built_at c.stream_layer p to ≡ [] → Stands (record c { stream_layer = delivered c.stream_layer p to }) coming
+        layer_takes : (to : ActorId) → p.to ≡ to → built_at c.stream_layer p to ≡ [] → Stands base (record c { stream_layer = delivered c.stream_layer p to }) coming
         layer_takes to is none =
-            subst (λ z. Stands (record c { stream_layer = z }) coming) (ap (delivered_if c.stream_layer) at ∙ ap (delivered c.stream_layer p) is)
+            subst (λ z. Stands base (record c { stream_layer = z }) coming) (ap (delivered_if c.stream_layer) at ∙ ap (delivered c.stream_layer p) is)
             (happens_stands generation_at nodes target c y x (Deliver number) (built_is to is ∙ none))
 
-        manager_takes : p.to ≡ Manager → Stands (record c { stream_layer = delivered c.stream_layer p Manager }) (built_events (built_at c.stream_layer p Manager) ++ coming)
+        manager_takes : p.to ≡ Manager → Stands base (record c { stream_layer = delivered c.stream_layer p Manager }) (built_events (built_at c.stream_layer p Manager) ++ coming)
         manager_takes is =
-            subst (λ l. Stands (record c { stream_layer = delivered c.stream_layer p Manager }) (built_events l ++ coming)) (built_is Manager is)
-            (subst (λ z. Stands (record c { stream_layer = z }) (built_events (built_in c.stream_layer (Deliver number)) ++ coming)) (ap (delivered_if c.stream_layer) at ∙ ap (delivered c.stream_layer p) is)
-            (subst (λ z. Standing generation_at nodes target (record c { stream_layer = happens c.stream_layer (Deliver number) }) z) (run_events batch count (built_events (built_in c.stream_layer (Deliver number))) coming)
+            subst (λ l. Stands base (record c { stream_layer = delivered c.stream_layer p Manager }) (built_events l ++ coming)) (built_is Manager is)
+            (subst (λ z. Stands base (record c { stream_layer = z }) (built_events (built_in c.stream_layer (Deliver number)) ++ coming)) (ap (delivered_if c.stream_layer) at ∙ ap (delivered c.stream_layer p) is)
+            (subst (λ z. Standing generation_at nodes target base (record c { stream_layer = happens c.stream_layer (Deliver number) }) z) (run_events batch count (built_events (built_in c.stream_layer (Deliver number))) coming)
             (builds_stand generation_at nodes target c y x (Deliver number))))
 
-        go : (to : ActorId) → p.to ≡ to → PacketOwes p to → Stands (delivered_to c p to) (packet_events c to p ++ coming)
+        go : (to : ActorId) → p.to ≡ to → PacketOwes p to → Stands base (delivered_to c p to) (packet_events c to p ++ coming)
         go (Server s) is owed = takes_stands generation_at plenty nodes target c y x whole s p (contains_get c.stream_layer.post number p at) is owed.0 owed.1
         go (Node n) is owed = layer_takes (Node n) is refl
         go Manager is owed = manager_takes is
         go Map is owed = map_takes_stand generation_at nodes target y c p owed x
         go (User u) is owed = layer_takes (User u) is refl
 
-    layer_on : (event : Event) → built_in c.stream_layer event ≡ [] → Standing generation_at nodes target (record c { stream_layer = happens c.stream_layer event }) y
+    layer_on : (event : Event) → built_in c.stream_layer event ≡ [] → Standing generation_at nodes target base (record c { stream_layer = happens c.stream_layer event }) y
     layer_on event none = happens_stands generation_at nodes target c y x event none
 
-    stops_on : (actor : ActorId) (call : ℕ) (keep : Bool) → Stands (stops c actor call keep) (stop_events actor call ++ coming)
+    stops_on : (actor : ActorId) (call : ℕ) (keep : Bool) → Stands base (stops c actor call keep) (stop_events actor call ++ coming)
     stops_on (Server s) call keep = stops_stand generation_at nodes target c y s call x
     stops_on (Node n) call keep = layer_on (Stop (Node n) call keep) refl
     stops_on Manager call keep = layer_on (Stop Manager call keep) refl
     stops_on Map call keep = map_stops_stand generation_at nodes target y c call keep x
     stops_on (User u) call keep = layer_on (Stop (User u) call keep) refl
 
-    restarts_on : (actor : ActorId) → Stands (restarts c actor) (start_events c actor ++ coming)
+    restarts_on : (actor : ActorId) → Stands base (restarts c actor) (start_events c actor ++ coming)
     restarts_on (Server s) = starts_stand generation_at nodes target c y s c.now c.batch x
     restarts_on (Node n) = layer_on (Restart (Node n)) refl
     restarts_on Manager = layer_on (Restart Manager) refl
     restarts_on Map = map_starts_stand generation_at nodes target y c x
     restarts_on (User u) = layer_on (Restart (User u)) refl
 
-    moment_on : (now : ℕ) → Stands (shows_moment c now) (server_events c (Moment now) ++ coming)
+    moment_on : (now : ℕ) → Stands base (shows_moment c now) (server_events c (Moment now) ++ coming)
     moment_on now = go (nat_lt now c.now)
       where
-        go : (b : Bool) → Stands (if b then c else record c { now = now; servers = map (told_moment now) c.servers }) ((if b then [] else MomentSo now ∷ []) ++ coming)
+        go : (b : Bool) → Stands base (if b then c else record c { now = now; servers = map (told_moment now) c.servers }) ((if b then [] else MomentSo now ∷ []) ++ coming)
         go true = x
         go false = moment_stands generation_at nodes target c y now x
 
-    pub comes_on : (event : Event) → IsUnmerged event → EventOwes event → Stands (cluster_after c event) (server_events c event ++ coming)
+    pub comes_on : (event : Event) → IsUnmerged event → EventOwes event → Stands base (cluster_after c event) (server_events c event ++ coming)
     comes_on (Submit user to body) unmerged owes = layer_on (Submit user to body) refl
     comes_on (Deliver number) unmerged owes = delivers_on number owes (slice_get c.stream_layer.post number) refl
     comes_on (Stop actor call keep) unmerged owes = stops_on actor call keep

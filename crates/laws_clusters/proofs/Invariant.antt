@@ -41,6 +41,7 @@ use Rattle.laws_log_reads.specs.Reads.{HasRead}
 use Rattle.laws_server_runs.specs.Places.{AreAscending}
 use Rattle.laws_clusters.proofs.ClientJobs.{AsksBy}
 use Rattle.laws_clusters.proofs.Copies.{AllSay}
+use Rattle.laws_clusters.proofs.GrownLists.{GrewFrom}
 use Rattle.laws_clusters.proofs.ObservedBytes.{AreObserved}
 use Rattle.laws_clusters.proofs.MapWords.{IsWord, AreCounted, AllHave}
 use Rattle.laws_clusters.proofs.RangeStreams.{HasStreams, AreOfSplits}
@@ -111,6 +112,10 @@ module _ (generation : ℕ → ℕ) where
     pub l : List (machine.Move Group generation)
     pub m_sent : List Sent
     pub l_sent : List Sent
+
+  -- what the machine of each log has grown from
+  abbrev pub Bases : Type 0
+  Bases = ℕ → List (machine.Move Group generation)
 
   -- a number of a request about one of them
   abbrev pub HasNumber : Machines → ReqNo → Type 0
@@ -210,13 +215,14 @@ module _ (generation : ℕ → ℕ) (nodes target : ℕ) where
     pub splits_ascending : AreAscending st.splits
     pub split_held : (range : ℕ) (job : SplitJob) → split_of st.splits range ≡ Some job → (r : RangeState) × (range_of st.ranges range ≡ Some r)
 
-  -- all of a cluster, whose servers are those of a run
-  pub record Standing (c : Cluster) (y : ServerRun) : Type 0 where
+  -- all of a cluster, whose servers are those of a run, and whose logs have grown from a base
+  pub record Standing (base : Bases generation) (c : Cluster) (y : ServerRun) : Type 0 where
     pub moves : List Move
     pub leads : here moves ≡ c.stream_layer
     -- the machines of each range; a range that nobody has opened has those in which nothing has happened
     pub machines : ℕ → Machines generation
     pub beside : (range : ℕ) → AreBeside moves range (machines range)
+    pub grows : (range : ℕ) → GrewFrom (base range) (machines range).l
     pub distinct : (one other : ℕ) → (one ≡ other → ⊥) → AreDistinct generation (machines one) (machines other)
     -- numbers that have a purpose were used, and so was each number that a server has asked under
     pub past : (range : ℕ) (q : ReqNo) → HasNumber generation (machines range) q → IsPast c.servers q

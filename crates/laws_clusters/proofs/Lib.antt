@@ -6,7 +6,9 @@ pub mod LayerSteps
 pub mod CheckpointRecords
 pub mod Copies
 pub mod Generations
+pub mod GrownLists
 pub mod LoadedOnce
+pub mod SharedLogs
 pub mod ShownBytes
 pub mod ServerNotes
 pub mod ObservedBytes
@@ -81,3 +83,7 @@ pub mod OwnedSplits
 pub mod RunOwners
 pub mod SplitPremises
 pub mod Theorem
+pub mod EndedSplits
+pub mod ToldRanges
+pub mod SharesInRuns
+pub mod SharedRuns

@@ -29,7 +29,7 @@ use Rattle.laws_clusters.proofs.ShownNotes.{notes_of, Adds, Quiet, OfServers, Of
 -- ---- lists
 
 -- of two ends of a list one is an end of the other
-ends_of_one : {A : Type 0} (xs u ys v : List A) → xs ++ u ≡ ys ++ v → ((k : List A) × (u ≡ k ++ v)) ⊎ ((k : List A) × (v ≡ k ++ u))
+pub ends_of_one : {A : Type 0} (xs u ys v : List A) → xs ++ u ≡ ys ++ v → ((k : List A) × (u ≡ k ++ v)) ⊎ ((k : List A) × (v ≡ k ++ u))
 ends_of_one [] u ys v e = inl (ys, e)
 ends_of_one (x ∷ xs) u [] v e = inr (x ∷ xs, sym e)
 ends_of_one (x ∷ xs) u (y ∷ ys) v e = ends_of_one xs u ys v (let t : xs ++ u ≡ ys ++ v = cc in t)

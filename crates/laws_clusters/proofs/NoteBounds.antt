@@ -263,8 +263,7 @@ above_bounds range bound = record {
 
 -- A split of a range that was done: who asked for it knew this generation, all that is ever told of the range is of at most this one, and all of
 -- the two is above it.
-pub record IsBounded (c : Cluster) (range low high : ℕ) : Type 0 where
-  pub generation : ℕ
+pub record IsBoundedBy (c : Cluster) (range low high generation : ℕ) : Type 0 where
   pub packet : Packet
   pub request : ReqNo
   pub sent : Contains c.stream_layer.post packet
@@ -272,6 +271,9 @@ pub record IsBounded (c : Cluster) (range low high : ℕ) : Type 0 where
   pub parent : Stands (AtMost range generation) (IsGone range) c
   pub low_child : Stands (MoreThan low generation) (IsAbove low generation) c
   pub high_child : Stands (MoreThan high generation) (IsAbove high generation) c
+
+abbrev pub IsBounded : Cluster → (range low high : ℕ) → Type 0
+IsBounded c range low high = (generation : ℕ) × IsBoundedBy c range low high generation
 
 -- it was assigned, and the entry of the map is not behind it
 abbrev pub IsLeased : MapState → ℕ → ℕ → Type 0
@@ -335,9 +337,8 @@ module _ (c : Cluster) (g : Governs c) (settled : AreSettled c) (all : AllNoted 
   high_used : 1 ≤ uses_pending high s.entry.pending
   high_used = subst (λ (p : Option Pending). 1 ≤ uses_pending high p) (sym s.pending) (let one = self_used high in omega (arith, one))
 
-  split_bounded : IsBounded d range low high
+  pub split_bounded : IsBoundedBy d range low high bound
   split_bounded = record {
-    generation = bound;
     packet = s.packet;
     request = s.request;
     sent = stays_in_post c s.packet s.sent (Deliver number);
@@ -376,12 +377,12 @@ module _ (c : Cluster) (g : Governs c) (r h : ℕ) where
 
 module _ (batch count : ℕ) where
   -- what is known of a cluster whose servers are what came to them made
-  record Knows (c : Cluster) (coming : List ServerEvent) : Type 0 where
-    governs : Governs c
-    settled : AreSettled c
-    cells : c.servers ≡ (run_of batch count coming).servers
-    noted : AllNoted (IsLeased c.map) (notes_of c)
-    bounded : (range low high : ℕ) (key : List ℕ) → Contains (notes_of c) (notes.Split range low high key) → IsBounded c range low high
+  pub record Knows (c : Cluster) (coming : List ServerEvent) : Type 0 where
+    pub governs : Governs c
+    pub settled : AreSettled c
+    pub cells : c.servers ≡ (run_of batch count coming).servers
+    pub noted : AllNoted (IsLeased c.map) (notes_of c)
+    pub bounded : (range low high : ℕ) (key : List ℕ) → Contains (notes_of c) (notes.Split range low high key) → IsBounded c range low high
 
   module _ (c : Cluster) (coming : List ServerEvent) (k : Knows c coming) (event : Event) (unmerged : IsUnmerged event) where
     abbrev after : Cluster
@@ -400,31 +401,32 @@ module _ (batch count : ℕ) where
         (λ s cell st at is n r found. (held_by_names (within c.map k.governs.asks) c k.governs.names s cell st at is n r found, held_by_names (assigning (IsSettled c.map)) c k.settled s cell st at is n r found))
         k.noted goes.adds)
 
-    still_bounded : (range low high : ℕ) → IsBounded c range low high → IsBounded after range low high
-    still_bounded range low high b = record {
-      generation = b.generation;
+    pub still_bounded : (range low high generation : ℕ) → IsBoundedBy c range low high generation → IsBoundedBy after range low high generation
+    still_bounded range low high generation b = record {
       packet = b.packet;
       request = b.request;
       sent = stays_in_post c b.packet b.sent event;
       asked = b.asked;
-      parent = stands_on (AtMost range b.generation) (IsGone range) c (gone_bounds range b.generation) b.parent x k.cells k.governs event unmerged goes.adds;
-      low_child = stands_on (MoreThan low b.generation) (IsAbove low b.generation) c (above_bounds low b.generation) b.low_child x k.cells k.governs event unmerged goes.adds;
-      high_child = stands_on (MoreThan high b.generation) (IsAbove high b.generation) c (above_bounds high b.generation) b.high_child x k.cells k.governs event unmerged goes.adds;
+      parent = stands_on (AtMost range generation) (IsGone range) c (gone_bounds range generation) b.parent x k.cells k.governs event unmerged goes.adds;
+      low_child = stands_on (MoreThan low generation) (IsAbove low generation) c (above_bounds low generation) b.low_child x k.cells k.governs event unmerged goes.adds;
+      high_child = stands_on (MoreThan high generation) (IsAbove high generation) c (above_bounds high generation) b.high_child x k.cells k.governs event unmerged goes.adds;
     }
 
     all_bounded : (range low high : ℕ) (key : List ℕ) → Contains (notes_of after) (notes.Split range low high key) → IsBounded after range low high
     all_bounded range low high key there = elim (adds_split range low high key x c event after goes.adds there) [
-      | inl old ↦ still_bounded range low high (k.bounded range low high key old)
+      | inl old ↦ (let b = k.bounded range low high key old in (b.0, still_bounded range low high b.0 b.1))
       | inr new ↦
           (let number : ℕ = new.0 in
           let is : event ≡ Deliver number = new.1 in
-          subst (λ (e : Event). IsBounded (cluster_after c e) range low high) (sym is)
-          (split_bounded c k.governs k.settled k.noted x k.cells number range low high key
-          (subst (λ (e : Event). CompletesSplit c (cluster_after c e).map range low high key) is new.2)
-          (subst (λ (e : Event). Adds x c e (cluster_after c e)) is goes.adds)))
+          subst (λ (e : Event). IsBounded (cluster_after c e) range low high) (sym is) (
+            new.2.entry.generation,
+            split_bounded c k.governs k.settled k.noted x k.cells number range low high key
+                (subst (λ (e : Event). CompletesSplit c (cluster_after c e).map range low high key) is new.2)
+                (subst (λ (e : Event). Adds x c e (cluster_after c e)) is goes.adds),
+          ))
     ]
 
-    knows_on : Knows after (server_events c event ++ coming)
+    pub knows_on : Knows after (server_events c event ++ coming)
     knows_on = record {
       governs = event_governs c event unmerged k.governs;
       settled = event_keeps (λ a. assigning (IsSettled a)) c (settled_laws c k.governs) k.settled event (nothing_asked event unmerged);
@@ -453,7 +455,7 @@ module _ (batch count : ℕ) where
   all_known [] unmerged c coming k = k
   all_known (event ∷ events) unmerged c coming k = all_known events unmerged.1 (cluster_after c event) (server_events c event ++ coming) (knows_on c coming k event unmerged.0)
 
-  first_known : (nodes target : ℕ) → Knows (first_cluster nodes count target batch) []
+  pub first_known : (nodes target : ℕ) → Knows (first_cluster nodes count target batch) []
   first_known nodes target = record {
     governs = first_governs nodes count target batch;
     settled = record { post = λ p there. absurd (let less = there.1 in omega (arith, less)); servers = first_cells (assigning (IsSettled (first_cluster nodes count target batch).map)) batch 1 count; catalog = λ range kind y is. tt };
@@ -479,14 +481,14 @@ pub run_bounds : (nodes servers target batch : ℕ) (events : List Event) → Ar
     Contains (notes_of (cluster_after_all (first_cluster nodes servers target batch) events)) (notes.Split range low high key) →
     GenerationBounds (cluster_after_all (first_cluster nodes servers target batch) events) range low high
 run_bounds nodes servers target batch events unmerged range low high key there = record {
-  generation = b.generation;
-  packet = b.packet;
-  request = b.request;
-  sent = b.sent;
-  asked = b.asked;
-  highest = λ note n is. b.parent.noted note range n is refl;
-  low_above = λ note n is. b.low_child.noted note low n is refl;
-  high_above = λ note n is. b.high_child.noted note high n is refl;
+  generation = b.0;
+  packet = b.1.packet;
+  request = b.1.request;
+  sent = b.1.sent;
+  asked = b.1.asked;
+  highest = λ note n is. b.1.parent.noted note range n is refl;
+  low_above = λ note n is. b.1.low_child.noted note low n is refl;
+  high_above = λ note n is. b.1.high_child.noted note high n is refl;
 }
   where
     c : Cluster

@@ -51,7 +51,7 @@ use Rattle.laws_clusters.proofs.MapWords.{IsWord, AreCounted, AllHave, AreWords,
 use Rattle.laws_clusters.proofs.SaidPackets.{AreSaid, said_of, said_sent, said_plain, said_alone, said_list}
 use Rattle.laws_loads.proofs.Entries.{entry_set, entry_other, entry_unmapped}
 use Rattle.laws_clusters.proofs.RequestNumbers.{PastAt, IsPast, used_number, AreNumbersPast, past_on, past_step, past_stops, past_starts, past_moment}
-use Rattle.laws_clusters.proofs.Invariant.{Machines, HeldAt, SplitAt, Waiter, OfRows, OfSeal, OfCall, Waits, AskedBy, Out, AllOut, IsBeside, AreBeside, here, m_side, l_side, Holds, IsHeld, Runs, Standing}
+use Rattle.laws_clusters.proofs.Invariant.{Machines, HeldAt, SplitAt, Waiter, OfRows, OfSeal, OfCall, Waits, AskedBy, Out, AllOut, IsBeside, AreBeside, here, m_side, l_side, Holds, IsHeld, Runs, Standing, Bases}
 
 -- ---- servers that run as before
 
@@ -187,7 +187,7 @@ module _ (generation : ℕ → ℕ) (nodes target : ℕ) where
 
   -- ---- servers
 
-  pub runs_as : (c : Cluster) (y z : ServerRun) → IsStill y z → (x : Standing generation nodes target c y) (s : ℕ) (cell : ServerCell) (st : ServerState) → RunsAs c.servers s cell st →
+  pub runs_as : {base : Bases generation} → (c : Cluster) (y z : ServerRun) → IsStill y z → (x : Standing generation nodes target base c y) (s : ℕ) (cell : ServerCell) (st : ServerState) → RunsAs c.servers s cell st →
       Runs generation nodes target x.moves x.machines (z.history s) (x.incarnation s) s cell st
   runs_as c y z still x s cell st (Ran old was at up server session lasts ranges splits) =
       let before : Runs generation nodes target x.moves x.machines (y.history s) (x.incarnation s) s old was = x.servers s old was at up in
@@ -214,14 +214,15 @@ module _ (generation : ℕ → ℕ) (nodes target : ℕ) where
   }
 
   -- the same stream system, and the same streams
-  pub rests_as : (c d : Cluster) (y z : ServerRun) (x : Standing generation nodes target c y) → d.stream_layer ≡ c.stream_layer → AreCounted d.map → AllHave c.stream_layer d.map → ((q : ReqNo) → IsPast c.servers q → IsPast d.servers q) →
+  pub rests_as : {base : Bases generation} → (c d : Cluster) (y z : ServerRun) (x : Standing generation nodes target base c y) → d.stream_layer ≡ c.stream_layer → AreCounted d.map → AllHave c.stream_layer d.map → ((q : ReqNo) → IsPast c.servers q → IsPast d.servers q) →
       IsStill y z → d.servers ≡ z.servers →
-      ((s : ℕ) (cell : ServerCell) (st : ServerState) → entry_at d.servers s ≡ Some cell → cell.state ≡ Some st → RunsAs c.servers s cell st) → Standing generation nodes target d z
+      ((s : ℕ) (cell : ServerCell) (st : ServerState) → entry_at d.servers s ≡ Some cell → cell.state ≡ Some st → RunsAs c.servers s cell st) → Standing generation nodes target base d z
   rests_as c d y z x same counted have past still cells runs = record {
     moves = x.moves;
     leads = x.leads ∙ sym same;
     machines = x.machines;
     beside = x.beside;
+    grows = x.grows;
     distinct = x.distinct;
     past = λ range q has. past q (x.past range q has);
     numbers = λ server to body there q number. past q (x.numbers server to body (subst (λ (v : StreamSystem). Contains v.post (packet (Server server) to body)) same there) q number);
@@ -313,28 +314,28 @@ module _ (generation : ℕ → ℕ) (nodes target : ℕ) where
             subst (λ k. RunsAs c.servers k other z) same (subst (λ y. RunsAs c.servers s y z) cell_is (runs z (ap (λ (y : ServerCell). y.state) cell_is ∙ up)))
         go false e = still_runs c.servers u other z (sym (entry_other c.servers s cell next at u (λ q. grind (arith, nat_tests))) ∙ there) up
 
-    pub one_stands : (w : StreamSystem) (y z : ServerRun) → w ≡ c.stream_layer → IsStill y z → z.servers ≡ slice_set c.servers (s - 1) next → Standing generation nodes target c y →
-        Standing generation nodes target (record c { stream_layer = w; servers = slice_set c.servers (s - 1) next }) z
+    pub one_stands : {base : Bases generation} → (w : StreamSystem) (y z : ServerRun) → w ≡ c.stream_layer → IsStill y z → z.servers ≡ slice_set c.servers (s - 1) next → Standing generation nodes target base c y →
+        Standing generation nodes target base (record c { stream_layer = w; servers = slice_set c.servers (s - 1) next }) z
     one_stands w y z same still cells x =
         rests_as c (record c { stream_layer = w; servers = slice_set c.servers (s - 1) next }) y z x same x.counted x.have (past_on c.servers s cell next at past) still (sym cells) all_run
 
   -- an event of a cluster, and the run of its servers after it
-  abbrev pub StandsAfter : Cluster → ServerRun → ServersOutcome → Type 0
-  StandsAfter c y o = Standing generation nodes target (servers_perform c o) (with_outcome y o)
+  abbrev pub StandsAfter : Bases generation → Cluster → ServerRun → ServersOutcome → Type 0
+  StandsAfter base c y o = Standing generation nodes target base (servers_perform c o) (with_outcome y o)
 
   -- there is no such server
-  pub nobody_stands : (c : Cluster) (y : ServerRun) → Standing generation nodes target c y → StandsAfter c y (record { servers = c.servers; packets = []; notes = [] })
+  pub nobody_stands : {base : Bases generation} → (c : Cluster) (y : ServerRun) → Standing generation nodes target base c y → StandsAfter base c y (record { servers = c.servers; packets = []; notes = [] })
   nobody_stands c y x =
       rests_as c (record c { stream_layer = with_told c.stream_layer [] [] }) y (with_outcome y (record { servers = c.servers; packets = []; notes = [] })) x (told_nothing c.stream_layer) x.counted x.have (λ q p. p)
       (still_done y c.servers [] [] refl) refl (still_runs c.servers)
 
   -- what the server of a number does, if there is one
-  pub cell_stands : (c : Cluster) (y : ServerRun) (s : ℕ) (rule : ServerCell → ServerCell) → ((cell : ServerCell) (n k : ℕ) → PastAt cell n k → PastAt (rule cell) n k) →
-      ((cell : ServerCell) (st : ServerState) → entry_at c.servers s ≡ Some cell → (rule cell).state ≡ Some st → RunsAs c.servers s (rule cell) st) → Standing generation nodes target c y →
-      StandsAfter c y (at_server c.servers s (λ cell. cell_rests (rule cell)) (entry_at c.servers s))
-  cell_stands c y s rule past runs x = go (entry_at c.servers s) refl
+  pub cell_stands : {base : Bases generation} → (c : Cluster) (y : ServerRun) (s : ℕ) (rule : ServerCell → ServerCell) → ((cell : ServerCell) (n k : ℕ) → PastAt cell n k → PastAt (rule cell) n k) →
+      ((cell : ServerCell) (st : ServerState) → entry_at c.servers s ≡ Some cell → (rule cell).state ≡ Some st → RunsAs c.servers s (rule cell) st) → Standing generation nodes target base c y →
+      StandsAfter base c y (at_server c.servers s (λ cell. cell_rests (rule cell)) (entry_at c.servers s))
+  cell_stands {base} c y s rule past runs x = go (entry_at c.servers s) refl
     where
-      go : (o : Option ServerCell) → entry_at c.servers s ≡ o → StandsAfter c y (at_server c.servers s (λ cell. cell_rests (rule cell)) o)
+      go : (o : Option ServerCell) → entry_at c.servers s ≡ o → StandsAfter base c y (at_server c.servers s (λ cell. cell_rests (rule cell)) o)
       go None at = nobody_stands c y x
       go (Some cell) at =
           one_stands c s cell (rule cell) at (past cell) (λ st up. runs cell st at up) (with_told c.stream_layer [] []) y
@@ -342,9 +343,9 @@ module _ (generation : ℕ → ℕ) (nodes target : ℕ) where
           (still_done y (slice_set c.servers (s - 1) (rule cell)) [] [] refl) refl x
 
   -- a server stops
-  pub stops_stand : (c : Cluster) (y : ServerRun) (s call : ℕ) → Standing generation nodes target c y → Standing generation nodes target (servers_perform c (server_stops c.servers s call)) (after_event y (Stops s call))
-  stops_stand c y s call x =
-      subst (λ l. Standing generation nodes target (servers_perform c (server_stops c.servers s call)) (with_outcome y (server_stops l s call))) x.cells
+  pub stops_stand : {base : Bases generation} → (c : Cluster) (y : ServerRun) (s call : ℕ) → Standing generation nodes target base c y → Standing generation nodes target base (servers_perform c (server_stops c.servers s call)) (after_event y (Stops s call))
+  stops_stand {base} c y s call x =
+      subst (λ l. Standing generation nodes target base (servers_perform c (server_stops c.servers s call)) (with_outcome y (server_stops l s call))) x.cells
       (cell_stands c y s (cell_stops call) (past_stops call) (λ cell st at up. go cell st at (call == 0) up) x)
     where
       go : (cell : ServerCell) (st : ServerState) → entry_at c.servers s ≡ Some cell → (b : Bool) → (if b then record cell { state = None } else cell).state ≡ Some st →
@@ -353,10 +354,10 @@ module _ (generation : ℕ → ℕ) (nodes target : ℕ) where
       go cell st at false up = still_runs c.servers s cell st at up
 
   -- a server starts
-  pub starts_stand : (c : Cluster) (y : ServerRun) (s now batch : ℕ) → Standing generation nodes target c y →
-      Standing generation nodes target (servers_perform c (server_starts c.servers s now batch)) (after_event y (Starts s now batch))
-  starts_stand c y s now batch x =
-      subst (λ l. Standing generation nodes target (servers_perform c (server_starts c.servers s now batch)) (with_outcome y (server_starts l s now batch))) x.cells
+  pub starts_stand : {base : Bases generation} → (c : Cluster) (y : ServerRun) (s now batch : ℕ) → Standing generation nodes target base c y →
+      Standing generation nodes target base (servers_perform c (server_starts c.servers s now batch)) (after_event y (Starts s now batch))
+  starts_stand {base} c y s now batch x =
+      subst (λ l. Standing generation nodes target base (servers_perform c (server_starts c.servers s now batch)) (with_outcome y (server_starts l s now batch))) x.cells
       (cell_stands c y s (λ cell. cell_starts s now batch cell cell.state) (past_starts s now batch) (λ cell st at up. by_state cell st at cell.state refl up) x)
     where
       go : (cell : ServerCell) (st : ServerState) → entry_at c.servers s ≡ Some cell → cell.state ≡ None → (b : Bool) →
@@ -375,8 +376,8 @@ module _ (generation : ℕ → ℕ) (nodes target : ℕ) where
   -- ---- a moment
 
   -- a moment that does not go back
-  pub moment_stands : (c : Cluster) (y : ServerRun) (now : ℕ) → Standing generation nodes target c y →
-      Standing generation nodes target (record c { now = now; servers = map (told_moment now) c.servers }) (after_event y (Moment now))
+  pub moment_stands : {base : Bases generation} → (c : Cluster) (y : ServerRun) (now : ℕ) → Standing generation nodes target base c y →
+      Standing generation nodes target base (record c { now = now; servers = map (told_moment now) c.servers }) (after_event y (Moment now))
   moment_stands c y now x =
       rests_as c (record c { now = now; servers = map (told_moment now) c.servers }) y (after_event y (Moment now)) x refl x.counted x.have (past_moment c.servers now)
       (still_here y (map (told_moment now) y.servers)) (ap (map (told_moment now)) x.cells) runs
@@ -406,33 +407,33 @@ module _ (generation : ℕ → ℕ) (nodes target : ℕ) where
       same_runs : (z : ServerState) → Some after ≡ Some z → RunsAs c.servers s (record cell { state = Some after }) z
       same_runs z e = let same : after ≡ z = cc in subst (λ y. RunsAs c.servers s (record cell { state = Some after }) y) same (Ran cell st at is server session refl ranges splits)
 
-      same_system_stands : (w : StreamSystem) (y z : ServerRun) → w ≡ c.stream_layer → IsStill y z → z.servers ≡ slice_set c.servers (s - 1) (record cell { state = Some after }) →
-          Standing generation nodes target c y → Standing generation nodes target (record c { stream_layer = w; servers = slice_set c.servers (s - 1) (record cell { state = Some after }) }) z
+      same_system_stands : {base : Bases generation} → (w : StreamSystem) (y z : ServerRun) → w ≡ c.stream_layer → IsStill y z → z.servers ≡ slice_set c.servers (s - 1) (record cell { state = Some after }) →
+          Standing generation nodes target base c y → Standing generation nodes target base (record c { stream_layer = w; servers = slice_set c.servers (s - 1) (record cell { state = Some after }) }) z
       same_system_stands w y z same still cells x = one_stands c s cell (record cell { state = Some after }) at same_past same_runs w y z same still cells x
 
     abbrev picked_servers : Nodes → List ServerCell
     picked_servers pick = slice_set c.servers (s - 1) (record cell { state = Some (record st { context = record st.context { pick = pick } }) })
 
     -- other nodes for new extents
-    pub picks_stand : (pick : Nodes) (y : ServerRun) → Standing generation nodes target c y → Standing generation nodes target (record c { servers = picked_servers pick }) (record y { servers = picked_servers pick })
+    pub picks_stand : {base : Bases generation} → (pick : Nodes) (y : ServerRun) → Standing generation nodes target base c y → Standing generation nodes target base (record c { servers = picked_servers pick }) (record y { servers = picked_servers pick })
     picks_stand pick y x =
         same_system_stands (record st { context = record st.context { pick = pick } }) refl refl (omega arith) (same_ranges st.ranges) refl c.stream_layer y (record y { servers = picked_servers pick }) refl
         (still_here y (picked_servers pick)) refl x
 
     -- a rule that sends and shows nothing
-    pub quiet_stands : (o : ServerOutcome) → IsQuiet st o → (y : ServerRun) → Standing generation nodes target c y → Standing generation nodes target (rule_done c s cell o) (run_done c y s cell Rests o)
+    pub quiet_stands : {base : Bases generation} → (o : ServerOutcome) → IsQuiet st o → (y : ServerRun) → Standing generation nodes target base c y → Standing generation nodes target base (rule_done c s cell o) (run_done c y s cell Rests o)
     quiet_stands o q y x =
         same_system_stands o.after q.server q.session q.count q.ranges q.splits (with_told c.stream_layer o.packets o.notes) y (run_done c y s cell Rests o)
         (ap (λ ps. with_told c.stream_layer ps o.notes) q.packets ∙ ap (λ ns. with_told c.stream_layer [] ns) q.notes ∙ told_nothing c.stream_layer)
         (still_done y (slice_set c.servers (s - 1) (cell_performs cell o).cell) o.packets o.notes q.notes) refl x
 
-    pub renew_stands : (range g until : ℕ) (y : ServerRun) → Standing generation nodes target c y →
-        Standing generation nodes target (rule_done c s cell (renew_rule st range g until (range_of st.ranges range))) (run_done c y s cell Rests (renew_rule st range g until (range_of st.ranges range)))
+    pub renew_stands : {base : Bases generation} → (range g until : ℕ) (y : ServerRun) → Standing generation nodes target base c y →
+        Standing generation nodes target base (rule_done c s cell (renew_rule st range g until (range_of st.ranges range))) (run_done c y s cell Rests (renew_rule st range g until (range_of st.ranges range)))
     renew_stands range g until y x = quiet_stands (renew_rule st range g until (range_of st.ranges range)) (renew_quiet st range g until) y x
 
   -- ---- packets that leave streams as they are
 
-  module _ (c : Cluster) (y : ServerRun) (x : Standing generation nodes target c y) (ps : List Packet) (are : AreSaid c.stream_layer ps)
+  module _ {base : Bases generation} (c : Cluster) (y : ServerRun) (x : Standing generation nodes target base c y) (ps : List Packet) (are : AreSaid c.stream_layer ps)
       (none_asked : (server : ℕ) (to : ActorId) (body : Body) → Contains ps (packet (Server server) to body) → (q : ReqNo) → used_number body ≡ Some q → ⊥)
       (words : (to : ActorId) (body : Body) → Contains ps (packet Map to body) → IsWord c.stream_layer body) (notes : List Note)
       (changes : AreChanges notes) where
@@ -541,12 +542,13 @@ module _ (generation : ℕ → ℕ) (nodes target : ℕ) where
     kept_notes note there = Contains-append_left c.stream_layer.notes notes note there
 
     -- they are sent, and splits and merges are shown
-    pub says_stands : Standing generation nodes target (record c { stream_layer = told_by_map c.stream_layer ps notes }) y
+    pub says_stands : Standing generation nodes target base (record c { stream_layer = told_by_map c.stream_layer ps notes }) y
     says_stands = record {
       moves = later;
       leads = told.leads ∙ ap (λ z. told_by_map z ps notes) x.leads;
       machines = x.machines;
       beside = still_beside;
+      grows = x.grows;
       distinct = x.distinct;
       past = x.past;
       numbers = still_numbers;
@@ -573,16 +575,16 @@ module _ (generation : ℕ → ℕ) (nodes target : ℕ) where
     }
 
   -- what the map tells and shows
-  pub map_says_stands : (c : Cluster) (y : ServerRun) → Standing generation nodes target c y → (ps : List Packet) → AreWords c.stream_layer ps → (notes : List Note) → AreChanges notes →
-      Standing generation nodes target (record c { stream_layer = told_by_map c.stream_layer ps notes }) y
+  pub map_says_stands : {base : Bases generation} → (c : Cluster) (y : ServerRun) → Standing generation nodes target base c y → (ps : List Packet) → AreWords c.stream_layer ps → (notes : List Note) → AreChanges notes →
+      Standing generation nodes target base (record c { stream_layer = told_by_map c.stream_layer ps notes }) y
   map_says_stands c y x ps words notes changes = says_stands c y x ps (words_said c.stream_layer ps words)
       (λ server to body there q number. (let z : Server server ≡ Map = (words_of c.stream_layer ps words (packet (Server server) to body) there).0 in absurd cc)) (λ to body there. (words_of c.stream_layer ps words (packet Map to body) there).1) notes changes
 
   -- a server refuses what a user asks
-  pub refuses_stands : (c : Cluster) (y : ServerRun) → Standing generation nodes target c y → (d : ServerContext) (to : ActorId) (q : ReqNo) (why : Refusal) →
-      Standing generation nodes target (record c { stream_layer = sent_more c.stream_layer (refuses d to q why ∷ []) }) y
-  refuses_stands c y x d to q why =
-      subst (λ ns. Standing generation nodes target (record c { stream_layer = record c.stream_layer { post = c.stream_layer.post ++ refuses d to q why ∷ []; notes = ns } }) y) (append-nil c.stream_layer.notes)
+  pub refuses_stands : {base : Bases generation} → (c : Cluster) (y : ServerRun) → Standing generation nodes target base c y → (d : ServerContext) (to : ActorId) (q : ReqNo) (why : Refusal) →
+      Standing generation nodes target base (record c { stream_layer = sent_more c.stream_layer (refuses d to q why ∷ []) }) y
+  refuses_stands {base} c y x d to q why =
+      subst (λ ns. Standing generation nodes target base (record c { stream_layer = record c.stream_layer { post = c.stream_layer.post ++ refuses d to q why ∷ []; notes = ns } }) y) (append-nil c.stream_layer.notes)
       (says_stands c y x (refuses d to q why ∷ []) (inl refl, tt) none_used (λ receiver body there. absurd (not_map receiver body there)) [] tt)
     where
       not_map : (receiver : ActorId) (body : Body) → Contains (refuses d to q why ∷ []) (packet Map receiver body) → ⊥

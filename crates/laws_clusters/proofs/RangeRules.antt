@@ -50,7 +50,7 @@ use Rattle.laws_clusters.proofs.AckedAppends.{out_acked, record_acked}
 use Rattle.laws_clusters.proofs.ClientJobs.{AsksBy}
 use Rattle.laws_clusters.proofs.Copies.{AllSay, has_one_region}
 use Rattle.laws_clusters.proofs.RowAnswers.{load_number, rows_told, rows_acked, bytes_seen}
-use Rattle.laws_clusters.proofs.Invariant.{Machines, AreBeside, there_below, here, m_side, l_side, Standing}
+use Rattle.laws_clusters.proofs.Invariant.{Machines, AreBeside, there_below, here, m_side, l_side, Standing, Bases}
 use Rattle.laws_clusters.proofs.MapWords.{IsFounded}
 use Rattle.laws_clusters.proofs.RangeStreams.{HasStreams}
 use Rattle.laws_clusters.proofs.ObservedBytes.{AreObserved}
@@ -72,7 +72,7 @@ rows_made nodes target moves range e (index, at) none = go (stream_of (run_moves
         let made = ((lists_grow nodes target moves []).listed (rows_of range) z is).there index e there in
         let both : None ≡ Some made.0 = sym none ∙ made.1 in cc
 
-module _ (generation : ℕ → ℕ) (nodes target : ℕ) (c : Cluster) (y : ServerRun) (x : Standing generation nodes target c y) (range : ℕ) (founded : IsFounded c.stream_layer range) where
+module _ (generation : ℕ → ℕ) (nodes target : ℕ) {base : Bases generation} (c : Cluster) (y : ServerRun) (x : Standing generation nodes target base c y) (range : ℕ) (founded : IsFounded c.stream_layer range) where
   abbrev w : StreamSystem
   w = here generation nodes target x.moves
 

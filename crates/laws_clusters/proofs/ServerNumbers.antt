@@ -9,11 +9,11 @@ use Rattle.model_partition.specs.Servers.{ServerCell}
 use Rattle.model_histories.specs.ServerRun.{ServerRun}
 use Rattle.laws_stream_machine.proofs.ServerRequests.{Unused}
 use Rattle.laws_ranges.specs.Serves.{IsSentBy}
-use Rattle.laws_clusters.proofs.Invariant.{here, Runs, Standing}
+use Rattle.laws_clusters.proofs.Invariant.{here, Runs, Standing, Bases}
 use Rattle.laws_clusters.proofs.RequestNumbers.{IsPast, AreNumbersPast, AllPast, not_past, unused_of}
 use Rattle.laws_clusters.proofs.StreamMachines.{is_unused}
 
-module _ (generation : ℕ → ℕ) (nodes target : ℕ) (c : Cluster) (y : ServerRun) (x : Standing generation nodes target c y) (s : ℕ) (cell : ServerCell) (st : ServerState) (at : entry_at c.servers s ≡ Some cell) (is : cell.state ≡ Some st) where
+module _ (generation : ℕ → ℕ) (nodes target : ℕ) {base : Bases generation} (c : Cluster) (y : ServerRun) (x : Standing generation nodes target base c y) (s : ℕ) (cell : ServerCell) (st : ServerState) (at : entry_at c.servers s ≡ Some cell) (is : cell.state ≡ Some st) where
   pub run_of : Runs generation nodes target x.moves x.machines (y.history s) (x.incarnation s) s cell st
   run_of = x.servers s cell st at is
 

@@ -69,7 +69,7 @@ use Rattle.laws_clusters.proofs.RangeRules.{Done, Acted, done_alone, both, trans
 use Rattle.laws_clusters.proofs.RangeActions.{SeesBytes}
 use Rattle.laws_clusters.proofs.Senders.{none_from_map}
 use Rattle.laws_clusters.proofs.MapWords.{IsFounded, IsWord, IsMapWord}
-use Rattle.laws_clusters.proofs.Invariant.{HeldAt, Machines, here, m_side, l_side, Holds, IsHeld, Runs, Standing, OfRows, Out}
+use Rattle.laws_clusters.proofs.Invariant.{HeldAt, Machines, here, m_side, l_side, Holds, IsHeld, Runs, Standing, OfRows, Out, Bases}
 use Rattle.laws_clusters.proofs.ServerNumbers as numbers
 use Rattle.laws_clusters.proofs.ServerRules as steps
 use Rattle.laws_clusters.proofs.ServerRules.{IsLaid, AreLaid, laid_behind}
@@ -97,13 +97,13 @@ begun_here : (y : ServerRun) (s range : ℕ) → (with_effect s y (Begins range)
 begun_here y s range = ap (λ b. if b && (range == range) then first_history else y.history s range) (same_test s) ∙ ap (λ b. if b then first_history else y.history s range) (same_test range)
 
 module _ (generation : ℕ → ℕ) (plenty : (g n : ℕ) → (i : ℕ) × (n ≤ i) × (generation i ≡ g)) (nodes target : ℕ) where
-  module _ (c : Cluster) (y : ServerRun) (x : Standing generation nodes target c y) (s : ℕ) (cell : ServerCell) (st : ServerState) (at : entry_at c.servers s ≡ Some cell) (is : cell.state ≡ Some st) (whole : HasNoMerge st) where
+  module _ {base : Bases generation} (c : Cluster) (y : ServerRun) (x : Standing generation nodes target base c y) (s : ℕ) (cell : ServerCell) (st : ServerState) (at : entry_at c.servers s ≡ Some cell) (is : cell.state ≡ Some st) (whole : HasNoMerge st) where
     abbrev w : StreamSystem
     w = here generation nodes target x.moves
 
     -- a rule of the server, which does this with streams, leaves a cluster that stands
     abbrev Good : RangeEffect → ServerOutcome → Type 0
-    Good effect o = AreLaid (run_done c y s cell effect o) o.notes → Standing generation nodes target (rule_done c s cell o) (run_done c y s cell effect o)
+    Good effect o = AreLaid (run_done c y s cell effect o) o.notes → Standing generation nodes target base (rule_done c s cell o) (run_done c y s cell effect o)
 
     run : Runs generation nodes target x.moves x.machines (y.history s) (x.incarnation s) s cell st
     run = numbers.run_of generation nodes target c y x s cell st at is
@@ -116,9 +116,9 @@ module _ (generation : ℕ → ℕ) (plenty : (g n : ℕ) → (i : ℕ) × (n �
     refuse_good to q =
         let p : Packet = refuses st.context to q refusals.NotOwner in
         let d : Cluster = record c { stream_layer = sent_more c.stream_layer (p ∷ []) } in
-        let stands : Standing generation nodes target d y = refuses_stands generation nodes target c y x st.context to q refusals.NotOwner in
+        let stands : Standing generation nodes target base d y = refuses_stands generation nodes target c y x st.context to q refusals.NotOwner in
         λ laid.
-        subst (λ v. Standing generation nodes target (record c { stream_layer = v; servers = slice_set c.servers (s - 1) (cell_performs cell (rests st)).cell }) (run_done c y s cell Rests (rests st)))
+        subst (λ v. Standing generation nodes target base (record c { stream_layer = v; servers = slice_set c.servers (s - 1) (cell_performs cell (rests st)).cell }) (run_done c y s cell Rests (rests st)))
         (told_nothing d.stream_layer) (quiet_stands generation nodes target d s cell st at is (rests st) (rests_quiet st) y stands)
 
     seen_here : (range : ℕ) → SeesBytes w.notes (y.shown range) (y.answered range)
@@ -548,19 +548,19 @@ module _ (generation : ℕ → ℕ) (plenty : (g n : ℕ) → (i : ℕ) × (n �
   -- ---- events
 
   -- a server that is down stays so
-  stopped : (c : Cluster) (y : ServerRun) → Standing generation nodes target c y → (s : ℕ) (cell : ServerCell) → entry_at c.servers s ≡ Some cell →
-      StandsAfter generation nodes target c y (at_server c.servers s (λ z. cell_rests z) (Some cell))
-  stopped c y x s cell at =
-      subst (λ o. StandsAfter generation nodes target c y (at_server c.servers s (λ z. cell_rests z) o)) at
+  stopped : {base : Bases generation} → (c : Cluster) (y : ServerRun) → Standing generation nodes target base c y → (s : ℕ) (cell : ServerCell) → entry_at c.servers s ≡ Some cell →
+      StandsAfter generation nodes target base c y (at_server c.servers s (λ z. cell_rests z) (Some cell))
+  stopped {base} c y x s cell at =
+      subst (λ o. StandsAfter generation nodes target base c y (at_server c.servers s (λ z. cell_rests z) o)) at
       (cell_stands generation nodes target c y s (λ z. z) (λ z n k past. past) (λ z st found up. still_runs c.servers s z st found up) x)
 
   -- a server takes a packet
-  module _ (c : Cluster) (y : ServerRun) (x : Standing generation nodes target c y) (whole : HaveNoMerges c.servers) (s : ℕ) (p : Packet) (there : Contains c.stream_layer.post p) (to : p.to ≡ Server s)
+  module _ {base : Bases generation} (c : Cluster) (y : ServerRun) (x : Standing generation nodes target base c y) (whole : HaveNoMerges c.servers) (s : ℕ) (p : Packet) (there : Contains c.stream_layer.post p) (to : p.to ≡ Server s)
       (splitting : (cell : ServerCell) (at : entry_at c.servers s ≡ Some cell) (st : ServerState) (is : cell.state ≡ Some st) → SplittingStands c y x s cell st at is (whole s cell at st is)) where
     -- a cluster after this, and the run where servers do this with streams
     abbrev Took : RangeEffect → ServersOutcome → ServersOutcome → Type 0
     Took effect o seen = IsLaid (with_outcome (with_effect s y effect) seen) →
-        Standing generation nodes target (servers_perform c o) (with_outcome (with_effect s y effect) seen)
+        Standing generation nodes target base (servers_perform c o) (with_outcome (with_effect s y effect) seen)
 
     abbrev cell_after : ServerCell → Option ServerState → ServersOutcome
     cell_after cell o = record { servers = slice_set c.servers (s - 1) (cell_takes cell p o).cell; packets = (cell_takes cell p o).packets; notes = (cell_takes cell p o).notes }
@@ -577,12 +577,12 @@ module _ (generation : ℕ → ℕ) (plenty : (g n : ℕ) → (i : ℕ) × (n �
     cell_takes_so None at = λ laid. nobody_stands generation nodes target c y x
     cell_takes_so (Some cell) at = state_takes cell at cell.state refl
 
-    pub takes_stands : IsLaid (after_event y (Takes s p)) → Standing generation nodes target (servers_perform c (server_takes c.servers s p)) (after_event y (Takes s p))
+    pub takes_stands : IsLaid (after_event y (Takes s p)) → Standing generation nodes target base (servers_perform c (server_takes c.servers s p)) (after_event y (Takes s p))
     takes_stands =
         subst (λ l. Took (cell_effect p (entry_at l s)) (server_takes c.servers s p) (server_takes l s p)) x.cells (cell_takes_so (entry_at c.servers s) refl)
 
   -- a server is told to give up
-  module _ (c : Cluster) (y : ServerRun) (x : Standing generation nodes target c y) (whole : HaveNoMerges c.servers) (s range : ℕ) (pick : Nodes) where
+  module _ {base : Bases generation} (c : Cluster) (y : ServerRun) (x : Standing generation nodes target base c y) (whole : HaveNoMerges c.servers) (s range : ℕ) (pick : Nodes) where
     -- it has other nodes for new extents
     abbrev pub picked_cell : ServerCell → ServerState → ServerCell
     picked_cell cell st = record cell { state = Some (picked st pick) }
@@ -593,7 +593,7 @@ module _ (generation : ℕ → ℕ) (plenty : (g n : ℕ) → (i : ℕ) × (n �
     abbrev pub picked_run : ServerCell → ServerState → ServerRun
     picked_run cell st = record y { servers = slice_set c.servers (s - 1) (picked_cell cell st) }
 
-    pub picked_stands : (cell : ServerCell) (at : entry_at c.servers s ≡ Some cell) (st : ServerState) (is : cell.state ≡ Some st) → Standing generation nodes target (picked_cluster cell st) (picked_run cell st)
+    pub picked_stands : (cell : ServerCell) (at : entry_at c.servers s ≡ Some cell) (st : ServerState) (is : cell.state ≡ Some st) → Standing generation nodes target base (picked_cluster cell st) (picked_run cell st)
     picked_stands cell at st is = picks_stand generation nodes target c s cell st at is (if has_numbers st.context then pick else st.context.pick) y x
 
     -- what is owed of ranges that are being split
@@ -609,7 +609,7 @@ module _ (generation : ℕ → ℕ) (plenty : (g n : ℕ) → (i : ℕ) × (n �
         range r job found job_is
 
     abbrev GaveUp : ServersOutcome → ServersOutcome → Type 0
-    GaveUp o seen = IsLaid (with_outcome y seen) → Standing generation nodes target (servers_perform c o) (with_outcome y seen)
+    GaveUp o seen = IsLaid (with_outcome y seen) → Standing generation nodes target base (servers_perform c o) (with_outcome y seen)
 
     abbrev rule_after : ServerCell → Option ServerOutcome → ServersOutcome
     rule_after cell o = record { servers = slice_set c.servers (s - 1) (cell_given_up cell o).cell; packets = (cell_given_up cell o).packets; notes = (cell_given_up cell o).notes }
@@ -646,13 +646,13 @@ module _ (generation : ℕ → ℕ) (plenty : (g n : ℕ) → (i : ℕ) × (n �
       cell_gives (Some cell) at = state_gives cell at cell.state refl
 
       pub gives_up_stands : IsLaid (after_event y (GivesUp s range pick)) →
-          Standing generation nodes target (servers_perform c (server_gives_up c.servers s range pick)) (after_event y (GivesUp s range pick))
+          Standing generation nodes target base (servers_perform c (server_gives_up c.servers s range pick)) (after_event y (GivesUp s range pick))
       gives_up_stands = subst (λ l. GaveUp (server_gives_up c.servers s range pick) (server_gives_up l s range pick)) x.cells (cell_gives (entry_at c.servers s) refl)
 
   -- a server is told to make a checkpoint
-  module _ (c : Cluster) (y : ServerRun) (x : Standing generation nodes target c y) (whole : HaveNoMerges c.servers) (s range : ℕ) (combine : Bool) where
+  module _ {base : Bases generation} (c : Cluster) (y : ServerRun) (x : Standing generation nodes target base c y) (whole : HaveNoMerges c.servers) (s range : ℕ) (combine : Bool) where
     abbrev Made : ServersOutcome → ServersOutcome → Type 0
-    Made o seen = IsLaid (with_outcome y seen) → Standing generation nodes target (servers_perform c o) (with_outcome y seen)
+    Made o seen = IsLaid (with_outcome y seen) → Standing generation nodes target base (servers_perform c o) (with_outcome y seen)
 
     abbrev made_after : ServerCell → Option ServerState → ServersOutcome
     made_after cell o =
@@ -674,5 +674,5 @@ module _ (generation : ℕ → ℕ) (plenty : (g n : ℕ) → (i : ℕ) × (n �
     cell_makes (Some cell) at = state_makes cell at cell.state refl
 
     pub checkpoints_stand : IsLaid (after_event y (Checkpoints s range combine)) →
-        Standing generation nodes target (servers_perform c (server_checkpoints c.servers s range combine)) (after_event y (Checkpoints s range combine))
+        Standing generation nodes target base (servers_perform c (server_checkpoints c.servers s range combine)) (after_event y (Checkpoints s range combine))
     checkpoints_stand = subst (λ l. Made (server_checkpoints c.servers s range combine) (server_checkpoints l s range combine)) x.cells (cell_makes (entry_at c.servers s) refl)

@@ -42,16 +42,18 @@ use Rattle.laws_ranges.specs.Seen.{BeganAt, SeesStories}
 use Rattle.laws_ranges.specs.Serves.{Side, metadata_of, log_of, rows_of, AsksOfRows, IsForRows, IsAside, Adds, AreUnused, BothGo}
 use Rattle.laws_ranges.specs.SplitJobs.{waits_seal, waits_call, FollowsBoth, FollowsBothIf, IsForSplit, AskedOfSplit, silent}
 use Rattle.laws_ranges.proofs.SplitsKept.{both_row_data, seal_aside}
+use Rattle.laws_ranges.proofs.TurnsAsMoves.{moves_of}
 use Rattle.laws_server_runs.specs.RunInvariant.{view_at}
 use Rattle.laws_server_runs.proofs.Actions.{same_test, other_test, actions_here, actions_apart, actions_bytes, actions_rest}
 use Rattle.laws_servers.specs.Sending.{MaySendAll}
 use Rattle.laws_server_runs.specs.Places.{bytes_of}
-use Rattle.laws_clusters.proofs.Invariant.{SeesAll, IsOther, HeldAt, SplitAt, Waiter, OfRows, OfSeal, OfCall, Waits, IsOfExtents, AskedBy, IsSplitAsk, Machines, HasNumber, HasNone, AllOut, AreDistinct, IsIdle, IsBeside, AreBeside, here, m_side, l_side, Holds, IsHeld, Runs, Standing}
+use Rattle.laws_clusters.proofs.Invariant.{SeesAll, IsOther, HeldAt, SplitAt, Waiter, OfRows, OfSeal, OfCall, Waits, IsOfExtents, AskedBy, IsSplitAsk, Machines, HasNumber, HasNone, AllOut, AreDistinct, IsIdle, IsBeside, AreBeside, here, m_side, l_side, Holds, IsHeld, Runs, Standing, Bases}
 use Rattle.laws_clusters.proofs.ObservedBytes.{AreObserved, observed_on, observed_both, before_tells, seen_all}
 use Rattle.laws_clusters.proofs.MapWords.{IsFounded, IsWord}
 use Rattle.laws_clusters.proofs.OtherRanges.{noted_keeps, onward_same, holds_on, held_on, own_if}
 use Rattle.laws_clusters.proofs.RangeActions.{actions_aside, actions_say}
 use Rattle.laws_clusters.proofs.Copies.{AllSay}
+use Rattle.laws_clusters.proofs.GrownLists.{GrewFrom, grew_on}
 use Rattle.laws_clusters.proofs.RangeStreams.{HasStreams, catalog_stays, streams_stay, IsOfSplit, AreOfSplits, split_stays, AsksOthers, absent_on}
 use Rattle.laws_clusters.proofs.RowRules.{AsksIn}
 use Rattle.laws_clusters.proofs.ClientJobs.{AsksBy}
@@ -72,7 +74,7 @@ use Rattle.laws_stream_machine.proofs.LowerLayer.{below_alone}
 use Rattle.laws_clusters.proofs.RequestNumbers.{PastAt, IsPast, used_number, asked_used, AreNumbersPast, AllPast, past_on, past_step, new_past, all_past_adds, added_some, added_none}
 
 module _ (generation : ℕ → ℕ) (nodes target : ℕ) where
-  module _ (c : Cluster) (y : ServerRun) (x : Standing generation nodes target c y) (s : ℕ) (cell : ServerCell) (st : ServerState) (at : entry_at c.servers s ≡ Some cell) (is : cell.state ≡ Some st) where
+  module _ {base : Bases generation} (c : Cluster) (y : ServerRun) (x : Standing generation nodes target base c y) (s : ℕ) (cell : ServerCell) (st : ServerState) (at : entry_at c.servers s ≡ Some cell) (is : cell.state ≡ Some st) where
     abbrev w : StreamSystem
     w = here generation nodes target x.moves
 
@@ -649,6 +651,9 @@ module _ (generation : ℕ → ℕ) (nodes target : ℕ) where
             append = began;
           })
 
+      all_grow : (j : ℕ) → GrewFrom (base j) (next_machines j).l
+      all_grow = by_range (λ j u. GrewFrom (base j) u.l) (grew_on (base range) (moves_of generation i goes.log_turns) z.l (x.grows range)) (λ j apart. x.grows j)
+
       other_here : (j : ℕ) → (j ≡ range → ⊥) → next_machines j ≡ x.machines j
       other_here j apart = ap (λ t. if t then new else x.machines j) (other_test j range apart)
 
@@ -813,12 +818,13 @@ module _ (generation : ℕ → ℕ) (nodes target : ℕ) where
           (laid texts (ordered texts before)) (x.told texts before))
 
       -- the cluster after the step
-      pub stepped : AreLaid next_run notes → Standing generation nodes target next_cluster next_run
+      pub stepped : AreLaid next_run notes → Standing generation nodes target base next_cluster next_run
       stepped laid = record {
         moves = later;
         leads = told.leads ∙ ap (λ u. with_told u ps notes) x.leads;
         machines = next_machines;
         beside = all_beside;
+        grows = all_grow;
         distinct = all_distinct;
         past = all_past;
         numbers = all_numbers;

@@ -26,7 +26,7 @@ use Rattle.laws_servers.proofs.SplitSteps.{follows_sends}
 use Rattle.laws_server_runs.specs.RunInvariant.{view_at}
 use Rattle.laws_clusters.proofs.Elsewhere.{BuildsAside}
 use Rattle.laws_clusters.proofs.SplitRequests.{BuildLeaves, BuildsCounted}
-use Rattle.laws_clusters.proofs.Invariant.{m_side, l_side, Standing}
+use Rattle.laws_clusters.proofs.Invariant.{m_side, l_side, Standing, Bases}
 use Rattle.laws_clusters.proofs.RangeRules.{both}
 use Rattle.laws_clusters.proofs.RowRules.{RowsIf}
 use Rattle.laws_clusters.proofs.ServerRules.{AreLaid, plain_laid}
@@ -42,7 +42,7 @@ use Rattle.laws_clusters.proofs.SplitStands as split
 abbrev pub BuildsApart : StreamSystem → ℕ → Option SplitJob → Type 0
 BuildsApart w range job = ((j : ℕ) → (j ≡ range → ⊥) → BuildLeaves (metadata_of j) w job × BuildLeaves (log_of j) w job) × BuildsCounted job
 
-module _ (generation : ℕ → ℕ) (nodes target : ℕ) (c : Cluster) (y : ServerRun) (x : Standing generation nodes target c y) (s : ℕ) (cell : ServerCell) (st : ServerState) (at : entry_at c.servers s ≡ Some cell) (is : cell.state ≡ Some st)
+module _ (generation : ℕ → ℕ) (nodes target : ℕ) {base : Bases generation} (c : Cluster) (y : ServerRun) (x : Standing generation nodes target base c y) (s : ℕ) (cell : ServerCell) (st : ServerState) (at : entry_at c.servers s ≡ Some cell) (is : cell.state ≡ Some st)
     (range : ℕ) (r : RangeState) (found : range_of st.ranges range ≡ Some r) (job : SplitJob) (was : split_of st.splits range ≡ Some job) where
   module _ (o : RangeOutcome) (actions : List StreamAction) (acted : split.Does generation nodes target c y x s cell st at is range r found job was (beside_step job o) actions) (senders : AllFromServers o.packets)
       (left : RowsIf st.context r.rows o.count o.packets o.after) (next : RangeState) (is_next : o.after ≡ Some next) where
@@ -61,7 +61,7 @@ module _ (generation : ℕ → ℕ) (nodes target : ℕ) (c : Cluster) (y : Serv
     abbrev pub cell1 : ServerCell
     cell1 = one.cell_after generation nodes target c y x s cell st at is range r found (Some job) was (beside_step job o) ranges st.splits
 
-    pub x1 : Standing generation nodes target c1 y1
+    pub x1 : Standing generation nodes target base c1 y1
     x1 = split.rule_stands generation nodes target c y x s cell st at is range r found job was o [] actions acted senders left next is_next (plain_laid y1 [] tt)
 
     pub at1 : entry_at c1.servers s ≡ Some cell1
@@ -142,10 +142,10 @@ module _ (generation : ℕ → ℕ) (nodes target : ℕ) (c : Cluster) (y : Serv
           let b = one.shape_of generation nodes target c y x s cell st at is range r found (Some job) was o.after in
           record { ascending = a.ascending; here = a.here; there = a.there; others = λ j apart. a.others j apart ∙ sym (b.others j apart) }
 
-      pub behind_stands : AreLaid last_run o.notes → Standing generation nodes target last_cluster last_run
+      pub behind_stands : AreLaid last_run o.notes → Standing generation nodes target base last_cluster last_run
       behind_stands laid =
-          subst (λ z. Standing generation nodes target z last_run) cluster_is
-          (subst (λ z. Standing generation nodes target (cluster_so (with_told (with_told c.stream_layer o.packets []) t.packets o.notes) two_servers) z) run_is
+          subst (λ z. Standing generation nodes target base z last_run) cluster_is
+          (subst (λ z. Standing generation nodes target base (cluster_so (with_told (with_told c.stream_layer o.packets []) t.packets o.notes) two_servers) z) run_is
           (split.split_stands generation nodes target c1 y1 x1 s cell1 st1 at1 refl range next found1 job was t o.notes later then sends leaves keys
           builds_there (set_range st.ranges range t.range) shape (set_split st.splits range t.job)
           (one.splits_of generation nodes target c y x s cell st at is range r found (Some job) was t.job) (subst (λ z. AreLaid z o.notes) (sym run_is) laid)))
@@ -179,7 +179,7 @@ module _ (generation : ℕ → ℕ) (nodes target : ℕ) (c : Cluster) (y : Serv
       -- a rule of the range, and what its split then does
       pub follow_stands : (builds_later : BuildsApart c.stream_layer range (follows st1.context next job).job) →
           AreLaid (last_run (follows st1.context next job) (follow_actions st1.context next job) followed (follows_sends st1.context next job) (follows_leaves st1.context next job) (follows_keys st1.context next job) builds_later) o.notes →
-          Standing generation nodes target (last_cluster (follows st1.context next job) (follow_actions st1.context next job) followed (follows_sends st1.context next job) (follows_leaves st1.context next job) (follows_keys st1.context next job) builds_later)
+          Standing generation nodes target base (last_cluster (follows st1.context next job) (follow_actions st1.context next job) followed (follows_sends st1.context next job) (follows_leaves st1.context next job) (follows_keys st1.context next job) builds_later)
           (last_run (follows st1.context next job) (follow_actions st1.context next job) followed (follows_sends st1.context next job) (follows_leaves st1.context next job) (follows_keys st1.context next job) builds_later)
       follow_stands builds_later =
           behind_stands (follows st1.context next job) (follow_actions st1.context next job) followed (follows_sends st1.context next job) (follows_leaves st1.context next job) (follows_keys st1.context next job) builds_later
@@ -194,7 +194,7 @@ module _ (generation : ℕ → ℕ) (nodes target : ℕ) (c : Cluster) (y : Serv
     GoesOn t =
         AllFromServers t.packets → Leaves st1.context next job t → BuildsApart c.stream_layer range t.job →
         AreLaid (with_outcome (after_actions s range r.load.generation y actions) (record { servers = slice_set c.servers (s - 1) (record cell { state = Some (after_split t) }); packets = o.packets ++ t.packets; notes = o.notes })) o.notes →
-        Standing generation nodes target (record c { stream_layer = with_told c.stream_layer (o.packets ++ t.packets) o.notes; servers = slice_set c.servers (s - 1) (record cell { state = Some (after_split t) }) })
+        Standing generation nodes target base (record c { stream_layer = with_told c.stream_layer (o.packets ++ t.packets) o.notes; servers = slice_set c.servers (s - 1) (record cell { state = Some (after_split t) }) })
         (with_outcome (after_actions s range r.load.generation y actions) (record { servers = slice_set c.servers (s - 1) (record cell { state = Some (after_split t) }); packets = o.packets ++ t.packets; notes = o.notes }))
 
     goes_on : (t : SplitStep) → SplitSees generation range (one.w generation nodes target c1 y1 x1 s cell1 st1 at1 refl range next found1 (Some job) was) i3 (view_at range y1 s) (m_side generation (x1.machines range) i3) (l_side generation (x1.machines range) i3) st1.context t [] →

@@ -32,7 +32,7 @@ use Rattle.laws_server_runs.specs.RunInvariant.{view_at}
 use Rattle.laws_server_runs.proofs.RangeLists.{inserted_here, inserted_other, ascending_inserted, dropped_here, dropped_other, left_here, left_other, ascending_left}
 use Rattle.laws_clusters.proofs.ClientJobs.{AsksBy}
 use Rattle.laws_clusters.proofs.Elsewhere.{AllBuildAside}
-use Rattle.laws_clusters.proofs.Invariant.{HeldAt, OfRows, Out, here, m_side, l_side, Holds, IsHeld, Runs, Standing}
+use Rattle.laws_clusters.proofs.Invariant.{HeldAt, OfRows, Out, here, m_side, l_side, Holds, IsHeld, Runs, Standing, Bases}
 use Rattle.laws_clusters.proofs.RangeActions.{SeesBytes}
 use Rattle.laws_clusters.proofs.MapWords.{IsFounded}
 use Rattle.laws_clusters.proofs.RangeRules.{Acted}
@@ -88,7 +88,7 @@ split_shape_of before range (Some job) ascending = record { ascending = ascendin
 
 -- ---- a step of one range at a server
 
-module _ (generation : ℕ → ℕ) (nodes target : ℕ) (c : Cluster) (y : ServerRun) (x : Standing generation nodes target c y) (s : ℕ) (cell : ServerCell) (st : ServerState) (at : entry_at c.servers s ≡ Some cell) (is : cell.state ≡ Some st)
+module _ (generation : ℕ → ℕ) (nodes target : ℕ) {base : Bases generation} (c : Cluster) (y : ServerRun) (x : Standing generation nodes target base c y) (s : ℕ) (cell : ServerCell) (st : ServerState) (at : entry_at c.servers s ≡ Some cell) (is : cell.state ≡ Some st)
     (range : ℕ) (r : RangeState) (found : range_of st.ranges range ≡ Some r) (before : Option SplitJob) (was : split_of st.splits range ≡ before) where
   abbrev pub w : StreamSystem
   w = here generation nodes target x.moves
@@ -165,7 +165,7 @@ module _ (generation : ℕ → ℕ) (nodes target : ℕ) (c : Cluster) (y : Serv
   pub step_stands : (t : SplitStep) (notes : List TableNote) (actions : List StreamAction) → Does t actions → AllFromServers t.packets → StepWaits st range t t.packets → (t.range ≡ None → t.job ≡ None) →
       (t.range ≡ None → (p : Packet) → Contains t.packets p → (q : ReqNo) → used_number p.body ≡ Some q → asked_number p.body ≡ Some q) → AreAside t.packets →
       (ranges : List (ℕ × RangeState)) → AreLeft st.ranges ranges range t.range → (splits : List (ℕ × SplitJob)) → SplitsLeft st.splits splits range t.job →
-      AreLaid (run_after t notes actions ranges splits) notes → Standing generation nodes target (cluster_after t notes ranges splits) (run_after t notes actions ranges splits)
+      AreLaid (run_after t notes actions ranges splits) notes → Standing generation nodes target base (cluster_after t notes ranges splits) (run_after t notes actions ranges splits)
   step_stands t notes actions acted senders waits ends gone builds ranges shape splits split_shape laid =
       steps.stepped generation nodes target c y x s cell st at is range founded i alone y same_run holds.record_append holds.append t notes actions acted t.packets (may_send_all t.packets senders) waits acted.rule.step.asked ends gone
       (λ server to list q now m among. one_of_split c.stream_layer t.packets builds.1 (packet (Server server) to (bodies.Stream (streams.MultiModify list q))) now)

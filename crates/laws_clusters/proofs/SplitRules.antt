@@ -42,7 +42,7 @@ use Rattle.laws_log_reads.specs.Reads.{HasReadAt, HasReadIf}
 use Rattle.laws_log_reads.proofs.SplitRecords.{split_says}
 use Rattle.laws_clusters.proofs.AckedAppends.{out_acked, record_acked, split_acked}
 use Rattle.laws_clusters.proofs.ClientJobs.{AsksBy}
-use Rattle.laws_clusters.proofs.Invariant.{Machines, here, m_side, l_side, Standing}
+use Rattle.laws_clusters.proofs.Invariant.{Machines, here, m_side, l_side, Standing, Bases}
 use Rattle.laws_clusters.proofs.ObservedBytes.{AsAcked}
 use Rattle.laws_clusters.proofs.RangeActions.{AreOnEither, SeesBytes, OutAcked, RecordAcked, on_both, transact_on, answer_on, transact_seen, answer_seen}
 use Rattle.laws_clusters.proofs.MapWords.{IsFounded}
@@ -108,7 +108,7 @@ split_reads generation range w i m l n k h (Some r) (Some job) ends f = record {
 abbrev pub beside_step : SplitJob → RangeOutcome → SplitStep
 beside_step job o = record { range = o.after; job = Some job; count = o.count; packets = o.packets }
 
-module _ (generation : ℕ → ℕ) (nodes target : ℕ) (c : Cluster) (y : ServerRun) (x : Standing generation nodes target c y) (range : ℕ) (founded : IsFounded c.stream_layer range) (i : ℕ) (d : ServerContext) where
+module _ (generation : ℕ → ℕ) (nodes target : ℕ) {base : Bases generation} (c : Cluster) (y : ServerRun) (x : Standing generation nodes target base c y) (range : ℕ) (founded : IsFounded c.stream_layer range) (i : ℕ) (d : ServerContext) where
   abbrev w : StreamSystem
   w = here generation nodes target x.moves
 

@@ -46,7 +46,7 @@ use Rattle.laws_servers.specs.Sending.{AllFromServers}
 use Rattle.laws_servers.proofs.ClientPackets.{from_servers}
 use Rattle.laws_servers.proofs.RangeSteps.{transact_tidy, get_tidy, answer_shows, give_up_tidy}
 use Rattle.laws_server_runs.specs.RunInvariant.{view_at}
-use Rattle.laws_clusters.proofs.Invariant.{m_side, l_side, Standing}
+use Rattle.laws_clusters.proofs.Invariant.{m_side, l_side, Standing, Bases}
 use Rattle.laws_clusters.proofs.OtherEvents.{rule_done, run_done}
 use Rattle.laws_clusters.proofs.RowPurposes.{rows_unread}
 use Rattle.laws_clusters.proofs.RowRules.{LeavesRows, transact_leaves, get_leaves, answer_leaves, give_up_leaves}
@@ -61,11 +61,11 @@ use Rattle.laws_clusters.proofs.SplitPackets as one
 use Rattle.laws_clusters.proofs.SplitRules.{beside_step, acted, split_acted, transact_beside, get_beside, give_up_beside, answer_beside}
 use Rattle.laws_clusters.proofs.SplitStands as split
 
-module _ (generation : ℕ → ℕ) (nodes target : ℕ) (c : Cluster) (y : ServerRun) (x : Standing generation nodes target c y) (s : ℕ) (cell : ServerCell) (st : ServerState) (at : entry_at c.servers s ≡ Some cell) (is : cell.state ≡ Some st)
+module _ (generation : ℕ → ℕ) (nodes target : ℕ) {base : Bases generation} (c : Cluster) (y : ServerRun) (x : Standing generation nodes target base c y) (s : ℕ) (cell : ServerCell) (st : ServerState) (at : entry_at c.servers s ≡ Some cell) (is : cell.state ≡ Some st)
     (range : ℕ) (r : RangeState) (found : range_of st.ranges range ≡ Some r) (job : SplitJob) (was : split_of st.splits range ≡ Some job) where
   -- a rule of the server, which does this with streams, leaves a cluster that stands
   abbrev pub Good : RangeEffect → ServerOutcome → Type 0
-  Good effect o = AreLaid (run_done c y s cell effect o) o.notes → Standing generation nodes target (rule_done c s cell o) (run_done c y s cell effect o)
+  Good effect o = AreLaid (run_done c y s cell effect o) o.notes → Standing generation nodes target base (rule_done c s cell o) (run_done c y s cell effect o)
 
   abbrev Acts : RangeOutcome → List StreamAction → Type 0
   Acts o actions = split.Does generation nodes target c y x s cell st at is range r found job was (beside_step job o) actions
@@ -217,7 +217,7 @@ module _ (generation : ℕ → ℕ) (nodes target : ℕ) (c : Cluster) (y : Serv
 
 -- ---- a split begins
 
-module _ (generation : ℕ → ℕ) (nodes target : ℕ) (c : Cluster) (y : ServerRun) (x : Standing generation nodes target c y) (s : ℕ) (cell : ServerCell) (st : ServerState) (at : entry_at c.servers s ≡ Some cell) (is : cell.state ≡ Some st)
+module _ (generation : ℕ → ℕ) (nodes target : ℕ) {base : Bases generation} (c : Cluster) (y : ServerRun) (x : Standing generation nodes target base c y) (s : ℕ) (cell : ServerCell) (st : ServerState) (at : entry_at c.servers s ≡ Some cell) (is : cell.state ≡ Some st)
     (range : ℕ) (r : RangeState) (found : range_of st.ranges range ≡ Some r) (was : split_of st.splits range ≡ None) (serves : r.stage ≡ stages.Serving) (key : List ℕ) where
   abbrev begun : SplitStep
   begun = split_rule st.context r key
@@ -253,7 +253,7 @@ module _ (generation : ℕ → ℕ) (nodes target : ℕ) (c : Cluster) (y : Serv
       new_call : (q : ReqNo) → is_same (request st.context) q ≡ true → IsNew st.context (suc st.context.count) q
       new_call q same = (st.context.count, omega arith, omega arith, sym (same_request (request st.context) q same))
 
-  pub begins_good : AreLaid (run_done c y s cell Rests (split_stepped st range begun)) [] → Standing generation nodes target (rule_done c s cell (split_stepped st range begun)) (run_done c y s cell Rests (split_stepped st range begun))
+  pub begins_good : AreLaid (run_done c y s cell Rests (split_stepped st range begun)) [] → Standing generation nodes target base (rule_done c s cell (split_stepped st range begun)) (run_done c y s cell Rests (split_stepped st range begun))
   begins_good laid =
       one.step_stands generation nodes target c y x s cell st at is range r found None was begun [] [] begun_acted (split_sends st.context r key) begun_waits (λ e. absurd (let z : Some r ≡ None = e in cc)) (λ e. absurd (let z : Some r ≡ None = e in cc))
       ((λ j apart. ((tt, tt), (tt, tt))), (tt, tt)) (set_range st.ranges range (Some r)) (one.shape_of generation nodes target c y x s cell st at is range r found None was (Some r)) (set_split st.splits range (Some begun_job))

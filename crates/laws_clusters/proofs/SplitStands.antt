@@ -26,7 +26,7 @@ use Rattle.laws_ranges.specs.Serves.{Side, after_turns, metadata_of, log_of}
 use Rattle.laws_ranges.specs.SplitJobs.{waits_seal, waits_call, IsForSplit, IsBuildOf, IsUnkeyed, IsUnkeyedIf, AskedOfSplit, SplitSees}
 use Rattle.laws_servers.specs.Sending.{AllFromServers}
 use Rattle.laws_server_runs.specs.RunInvariant.{view_at}
-use Rattle.laws_clusters.proofs.Invariant.{m_side, l_side, Standing}
+use Rattle.laws_clusters.proofs.Invariant.{m_side, l_side, Standing, Bases}
 use Rattle.laws_clusters.proofs.RowRules.{AsksIn, AllIn, RowsIf}
 use Rattle.laws_clusters.proofs.RowSteps.{WasOut, IsNew}
 use Rattle.laws_clusters.proofs.ServerRules.{AreLaid}
@@ -108,7 +108,7 @@ keyed_not : (phase : SplitPhase) → IsUnkeyed phase → IsKeyed phase → ⊥
 keyed_not (phases.Keys side c) none keyed = none
 keyed_not phase none keyed = keyed
 
-module _ (generation : ℕ → ℕ) (nodes target : ℕ) (c : Cluster) (y : ServerRun) (x : Standing generation nodes target c y) (s : ℕ) (cell : ServerCell) (st : ServerState) (at : entry_at c.servers s ≡ Some cell) (is : cell.state ≡ Some st)
+module _ (generation : ℕ → ℕ) (nodes target : ℕ) {base : Bases generation} (c : Cluster) (y : ServerRun) (x : Standing generation nodes target base c y) (s : ℕ) (cell : ServerCell) (st : ServerState) (at : entry_at c.servers s ≡ Some cell) (is : cell.state ≡ Some st)
     (range : ℕ) (r : RangeState) (found : range_of st.ranges range ≡ Some r) (job : SplitJob) (was : split_of st.splits range ≡ Some job) where
   abbrev pub w : StreamSystem
   w = one.w generation nodes target c y x s cell st at is range r found (Some job) was
@@ -126,7 +126,7 @@ module _ (generation : ℕ → ℕ) (nodes target : ℕ) (c : Cluster) (y : Serv
 
   abbrev pub Stands : SplitStep → List TableNote → List StreamAction → List (ℕ × RangeState) → List (ℕ × SplitJob) → Type 0
   Stands t notes actions ranges splits =
-      Standing generation nodes target (one.cluster_after generation nodes target c y x s cell st at is range r found (Some job) was t notes ranges splits)
+      Standing generation nodes target base (one.cluster_after generation nodes target c y x s cell st at is range r found (Some job) was t notes ranges splits)
       (one.run_after generation nodes target c y x s cell st at is range r found (Some job) was t notes actions ranges splits)
 
   abbrev pub IsShown : SplitStep → List TableNote → List StreamAction → List (ℕ × RangeState) → List (ℕ × SplitJob) → Type 0

@@ -31,7 +31,8 @@ use Rattle.laws_ranges.specs.Serves.{metadata_of, log_of, rows_of, Apart, Wider}
 use Rattle.laws_server_runs.specs.FamilyMembers.{of_servers}
 use Rattle.laws_clusters.proofs.AbsentStreams.{AllStay}
 use Rattle.laws_clusters.proofs.Copies.{AllSay}
-use Rattle.laws_clusters.proofs.Invariant.{HeldAt, SeesAll, IsOther, Machines, HasNumber, HasNone, OfRows, OfSeal, Out, AllOut, IsIdle, IsStream, AreBeside, there_below, here, IsHeld, Runs, Standing}
+use Rattle.laws_clusters.proofs.GrownLists.{GrewFrom, grew_on, grew_none}
+use Rattle.laws_clusters.proofs.Invariant.{HeldAt, SeesAll, IsOther, Machines, HasNumber, HasNone, OfRows, OfSeal, Out, AllOut, IsIdle, IsStream, AreBeside, there_below, here, IsHeld, Runs, Standing, Bases}
 use Rattle.laws_clusters.proofs.LayerSteps.{layer_same}
 use Rattle.laws_clusters.proofs.MapWords.{all_stay, word_stays}
 use Rattle.laws_clusters.proofs.ObservedBytes.{AreObserved, observed_on, tells_fewer}
@@ -72,7 +73,7 @@ module _ (generation : ℕ → ℕ) (nodes target : ℕ) where
   same_story (x ∷ steps) earlier are =
       layer_same generation (after_all Group generation (map (λ x. Below x) steps ++ earlier)).state x are.0.0 ∙ same_story steps earlier are.1
 
-  module _ (c : Cluster) (y : ServerRun) (x : Standing generation nodes target c y) (event : Event) where
+  module _ {base : Bases generation} (c : Cluster) (y : ServerRun) (x : Standing generation nodes target base c y) (event : Event) where
     abbrev w : StreamSystem
     w = here generation nodes target x.moves
 
@@ -133,6 +134,10 @@ module _ (generation : ℕ → ℕ) (nodes target : ℕ) where
       m_sent = (x.machines (suc n)).m_sent;
       l_sent = (x.machines (suc n)).l_sent;
     }
+
+    gone_grows : (range : ℕ) → GrewFrom (base range) (gone_on range).l
+    gone_grows zero = x.grows zero
+    gone_grows (suc n) = grew_on (base (suc n)) (map (λ z. Below z) (hl n).steps) (l_at n) (x.grows (suc n))
 
     pub gone_beside : (range : ℕ) → Unbuilt (metadata_of range) → Unbuilt (log_of range) → AreBeside generation nodes target later range (gone_on range)
     gone_beside zero one_unbuilt two_unbuilt =
@@ -208,7 +213,7 @@ module _ (generation : ℕ → ℕ) (nodes target : ℕ) where
       pub log : (j : ℕ) → sides j ≡ true → IsStream generation nodes target later (log_of j) (copy_of parent).l []
 
     module _ (sides : ℕ → Bool) (parent : ℕ) (b : BuildsSides sides parent) (z : ServerRun) (run : IsBuiltRun y z sides parent) where
-      abbrev next_machines : ℕ → Machines generation
+      abbrev pub next_machines : ℕ → Machines generation
       next_machines j = if sides j then copy_of parent else gone_on j
 
       -- what is so of a side, and of each other range
@@ -232,6 +237,12 @@ module _ (generation : ℕ → ℕ) (nodes target : ℕ) where
             log = λ counted. inl (b.log j is);
           })
           (λ j is. gone_beside j (b.metadata_unbuilt j is) (b.log_unbuilt j is))
+
+      -- what is built has grown from nothing
+      all_grow : (range : ℕ) → GrewFrom (base range) (next_machines range).l
+      all_grow = by_side (λ j u. GrewFrom (base j) u.l)
+          (λ j is. grew_none (base j) (copy_of parent).l (subst (GrewFrom (base j)) (b.none_done j is).1 (x.grows j)))
+          (λ j is. gone_grows j)
 
       -- ---- numbers
 
@@ -340,13 +351,19 @@ module _ (generation : ℕ → ℕ) (nodes target : ℕ) where
         | inr built ↦ subst (λ ps. AreObserved c.stream_layer.notes ps) (sym built) (x.acked parent)
       ]
 
+      -- the log of a side is that of the parent
+      pub sides_share : sides parent ≡ false → (j : ℕ) → sides j ≡ true → (next_machines j).l ≡ (next_machines parent).l
+      sides_share none j is =
+          ap (λ (t : Bool). (if t then copy_of parent else gone_on j).l) is ∙ sym (ap (λ (t : Bool). (if t then copy_of parent else gone_on parent).l) none)
+
       -- an event of the stream layer
-      pub event_stands : Standing generation nodes target (record c { stream_layer = happens c.stream_layer event }) z
+      pub event_stands : Standing generation nodes target base (record c { stream_layer = happens c.stream_layer event }) z
       event_stands = record {
         moves = later;
         leads = v_is ∙ ap (λ u. happens u event) x.leads;
         machines = next_machines;
         beside = all_beside;
+        grows = all_grow;
         distinct = λ first other apart q has. next_none other q (x.distinct first other apart q (next_number first q has));
         past = λ range q has. x.past range q (next_number range q has);
         numbers = λ server to body there. x.numbers server to body (happens_servers c.stream_layer event server to body there);
@@ -379,3 +396,7 @@ module _ (generation : ℕ → ℕ) (nodes target : ℕ) where
               let old = x.idle i le range in
               let steady = all_steady range i in
               (steady.0 ∙ old.0, steady.1 ∙ old.1)
+
+      pub event_machines : (range : ℕ) → event_stands.machines range ≡ next_machines range
+      unfolding event_stands
+      event_machines range = refl

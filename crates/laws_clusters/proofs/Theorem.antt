@@ -43,7 +43,7 @@ use Rattle.laws_servers.proofs.EventsAsMoves.{led_agrees, led_keeps}
 use Rattle.laws_clusters.specs.Orders.{ComesOfStreams}
 use Rattle.laws_clusters.specs.ServerEvents.{built_events, packet_events, delivery_events, stop_events, start_events, server_events, server_events_after, servers_of_run}
 use Rattle.laws_clusters.proofs.Generations.{generation_at, plenty}
-use Rattle.laws_clusters.proofs.Invariant.{SplitAt, Waiter, OfRows, OfSeal, OfCall, Waits, HeldAt, Machines, HasNumber, IsBeside, AreBeside, Runs, Standing}
+use Rattle.laws_clusters.proofs.Invariant.{SplitAt, Waiter, OfRows, OfSeal, OfCall, Waits, HeldAt, Machines, HasNumber, IsBeside, AreBeside, Runs, Standing, Bases}
 use Rattle.laws_clusters.proofs.ObservedBytes.{observed_stand}
 use Rattle.laws_clusters.proofs.OneRange.{IsOneRange, one_range_on, assigns_first, builds_none, completes_none, first_is_one}
 use Rattle.laws_server_runs.specs.Places.{AreAscending}
@@ -90,8 +90,12 @@ module _ (nodes target batch count : ℕ) where
   abbrev run : List ServerEvent → ServerRun
   run coming = run_of batch count coming
 
+  -- no log has grown at first
+  abbrev pub nothing : Bases generation_at
+  nothing range = []
+
   abbrev Stands : Cluster → ServerRun → Type 0
-  Stands c y = Standing generation_at nodes target c y
+  Stands c y = Standing generation_at nodes target nothing c y
 
   -- a cluster with one range stands with the servers that this makes, which are assigned the first range alone
   record StandsWith (c : Cluster) (coming : List ServerEvent) : Type 0 where
@@ -153,6 +157,7 @@ module _ (nodes target batch count : ℕ) where
       leads = refl;
       machines = λ range. empty;
       beside = empty_beside;
+      grows = λ range. ([], refl);
       distinct = λ one other apart q has. (refl, refl);
       past = λ range q has. absurd (empty_number q has);
       numbers = λ server to body there. absurd (let l = there.1 in omega (arith, l));
@@ -210,6 +215,9 @@ module _ (nodes target batch count : ℕ) where
       none_waits s range OfRows q waits = none_held s range waits.0 waits.1
       none_waits s range OfSeal q waits = none_split s range waits.0 waits.1
       none_waits s range OfCall q waits = none_split s range waits.0 waits.1
+
+  pub first_standing : Standing generation_at nodes target nothing (first_cluster nodes count target batch) (run_of batch count [])
+  first_standing = first_stands.stands
 
   -- ---- events
 

@@ -20,5 +20,8 @@
 //! The invariant stands beside splits too: each range at a server follows its streams and its split, whose requests are told apart by
 //! their numbers (`SplitRequests`, `RowSteps`), and the streams of two ranges may be built of its own (`BuiltRanges`). It stands after
 //! what a server does with a range that is being split (`SplitStands`, `SplitBehind`, `SplitServers`), but for the appends of keys; what
-//! is owed there is said by `OwedHearing` and `OwedLeaving`. No theorem of whole runs uses these yet.
+//! is owed there is said by `OwedHearing` and `OwedLeaving`. The logs of ranges that were built of each other stay one for what both had
+//! then (`SharedLogs`, `SharesInRuns`). Each split that is shown was one of a server that waited for its end (`EndedSplits`); so what is told
+//! of a run with splits replays, where the streams are in order and built as splits wait for them (`ToldRanges`). No contract uses
+//! these yet.
 #![tactic(auto)]

@@ -42,3 +42,4 @@ pub mod StagesKept
 pub mod StagesInRuns
 pub mod SplitFacts
 pub mod EventBirths
+pub mod EndsAsked

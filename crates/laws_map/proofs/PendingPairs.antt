@@ -393,7 +393,7 @@ module _ (c : Cluster) (g : Governs c) (asks : List Packet) (once : AreOnce asks
 
 -- the same with all that was asked by then
 module _ (c : Cluster) (g : Governs c) (n : Names (paired c.map g.asks) c) where
-  next_pairs : (event : Event) (unmerged : IsUnmerged event) → AskOneKey (cluster_after c event).stream_layer.post →
+  pub next_pairs : (event : Event) (unmerged : IsUnmerged event) → AskOneKey (cluster_after c event).stream_layer.post →
       Names (paired (cluster_after c event).map (event_governs c event unmerged g).asks) (cluster_after c event)
   unfolding event_governs other_governs split_governs
   next_pairs event unmerged h = go event unmerged h
