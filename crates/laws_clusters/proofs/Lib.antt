@@ -82,8 +82,13 @@ pub mod SplitOwners
 pub mod OwnedSplits
 pub mod RunOwners
 pub mod SplitPremises
+pub mod UntouchedStreams
+pub mod BuiltInRuns
+pub mod BornSo
 pub mod Theorem
 pub mod EndedSplits
 pub mod ToldRanges
 pub mod SharesInRuns
 pub mod SharedRuns
+pub mod UntoldRanges
+pub mod SplitRuns

@@ -74,7 +74,7 @@ is_building (phases.Seal kind q) two = absurd (omega (arith, two))
 is_building (phases.Keys side c) two = absurd (omega (arith, two))
 is_building (phases.Complete q) two = absurd (omega (arith, two))
 
-side_is : (job : SplitJob) (side : Side) (child : ℕ) → child ≡ side_range job side → IsSide child job
+pub side_is : (job : SplitJob) (side : Side) (child : ℕ) → child ≡ side_range job side → IsSide child job
 side_is job Low child is = inl is
 side_is job High child is = inr is
 

@@ -21,7 +21,7 @@
 //! their numbers (`SplitRequests`, `RowSteps`), and the streams of two ranges may be built of its own (`BuiltRanges`). It stands after
 //! what a server does with a range that is being split (`SplitStands`, `SplitBehind`, `SplitServers`), but for the appends of keys; what
 //! is owed there is said by `OwedHearing` and `OwedLeaving`. The logs of ranges that were built of each other stay one for what both had
-//! then (`SharedLogs`, `SharesInRuns`). Each split that is shown was one of a server that waited for its end (`EndedSplits`); so what is told
-//! of a run with splits replays, where the streams are in order and built as splits wait for them (`ToldRanges`). No contract uses
-//! these yet.
+//! then (`SharedLogs`, `SharesInRuns`). Each split that is shown was one of a server that waited for its end (`EndedSplits`), and streams are
+//! built as splits wait for them (`BornSo`, `UntoldRanges`); so what is told of a run without merges replays, where nothing is owed of
+//! its events (`ToldRanges`, `SplitRuns`). That nothing is owed is not proved yet, and no contract uses these.
 #![tactic(auto)]

@@ -1,5 +1,5 @@
 -- Which streams come to be in an event of a run.
-use Rattle.std.proofs.Common.{◌≡◌, ◌⊎◌, ℕ, ◌==◌, nat_lt, Bool, Option, Some, None, slice_get, Contains, refl, sym, ap, ◌∙◌, subst, inl, inr}
+use Rattle.std.proofs.Common.{◌≡◌, ◌⊎◌, ℕ, ◌==◌, nat_lt, Bool, Option, Some, None, slice_get, refl, ap, ◌∙◌, subst, inl}
 use Rattle.wire.specs.declared.actor.ActorId.{ActorId}
 use Rattle.wire.specs.declared.actor.ActorId.TheVariants.{Node, Manager, Map, Server, User}
 use Rattle.wire.specs.declared.packet.Packet.{Packet}

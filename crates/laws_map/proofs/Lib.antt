@@ -43,3 +43,4 @@ pub mod StagesInRuns
 pub mod SplitFacts
 pub mod EventBirths
 pub mod EndsAsked
+pub mod EventStays

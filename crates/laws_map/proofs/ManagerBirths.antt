@@ -92,7 +92,7 @@ modified_in (m ∷ list) ss name there = elim (modified_in list (built ss m) nam
 ]
 
 -- those that are built are there
-built_in : (sealed : ℕ → Option ℕ) (list : List Modify) (ss : Streams) → BuildsAll sealed ss list → (m : Modify) → Contains list m → IsIn (modified ss list) m.stream
+pub built_in : (sealed : ℕ → Option ℕ) (list : List Modify) (ss : Streams) → BuildsAll sealed ss list → (m : Modify) → Contains list m → IsIn (modified ss list) m.stream
 built_in sealed [] ss all m (k, less, is) = absurd (omega (arith, less))
 built_in sealed (n ∷ list) ss all m (zero, less, is) =
     subst (λ (y : Modify). IsIn (modified ss (n ∷ list)) y.stream) is

@@ -133,7 +133,7 @@ module _ (c : Cluster) (k : KnowsSplits c) where
   abbrev K : Knowledge
   K = giving k.gives.given k.governs.asks c.stream_layer.post c.map.next
 
-  names_of : (s : ℕ) (cell : ServerCell) (st : ServerState) → entry_at c.servers s ≡ Some cell → cell.state ≡ Some st → ServerNames K st
+  pub names_of : (s : ℕ) (cell : ServerCell) (st : ServerState) → entry_at c.servers s ≡ Some cell → cell.state ≡ Some st → ServerNames K st
   names_of s cell st at up = subst (StateNames K) up (entry_is (λ (y : ServerCell). StateNames K y.state) c.servers s cell k.gives.gives.names.servers at)
 
   stands : (s n : ℕ) (job : SplitJob) → JobAt c.servers s n job → JobStands c.stream_layer.post (IsIn c.stream_layer.catalog.stream) s n job
@@ -179,6 +179,10 @@ module _ (c : Cluster) (k : KnowsSplits c) where
   -- its two ranges are different
   pub split_apart : (s n : ℕ) (job : SplitJob) → JobAt c.servers s n job → 1 ≤ stage_of job.phase → job.low ≡ job.high → ⊥
   split_apart s n job j come = (apart_of c.stream_layer k.gives.given k.governs.asks c.map.next k.gives.gives.map.below k.gives.gives.names.post job (given_at s n job j come)).0
+
+  -- so are those of one for whose streams somebody asked
+  pub asked_apart : (job : SplitJob) → AsksBuild c.stream_layer.post job → job.low ≡ job.high → ⊥
+  asked_apart job a = (apart_of c.stream_layer k.gives.given k.governs.asks c.map.next k.gives.gives.map.below k.gives.gives.names.post job (asked_given job a)).0
 
   -- and above the first range's number
   pub split_above : (s n : ℕ) (job : SplitJob) → JobAt c.servers s n job → 1 ≤ stage_of job.phase → (child : ℕ) → IsSide child job → child ≤ 1 → ⊥

@@ -58,7 +58,7 @@ pub record Stand (w : StreamSystem) (servers : List ServerCell) : Type 0 where
 -- ---- the pairs that were given
 
 -- each of the streams is of one of the two ranges
-sides_of : (job : SplitJob) → Each (λ (m : Modify). (m.stream.range ≡ job.low) ⊎ (m.stream.range ≡ job.high)) (all_streams job)
+pub sides_of : (job : SplitJob) → Each (λ (m : Modify). (m.stream.range ≡ job.low) ⊎ (m.stream.range ≡ job.high)) (all_streams job)
 sides_of job = (inl refl, (inl refl, (inl refl, (inl refl, (inr refl, (inr refl, (inr refl, (inr refl, tt))))))))
 
 -- a split for whose streams somebody asked
