@@ -22,8 +22,9 @@ use Rattle.laws_clusters.proofs.Invariant.{Standing, Bases}
 use Rattle.laws_clusters.proofs.MapSteps.{map_takes_stand, assigns_stand, renews_stand, map_stops_stand, map_starts_stand}
 use Rattle.laws_clusters.proofs.MapWords.{Completes}
 use Rattle.laws_clusters.proofs.OtherEvents.{stops_stand, starts_stand, moment_stands}
-use Rattle.laws_clusters.proofs.ServerPackets.{SplittingStands, takes_stands, SplittingGivesUpThen, gives_up_stands, checkpoints_stand}
+use Rattle.laws_clusters.proofs.ServerPackets.{takes_stands, OwedPicked, gives_up_stands, checkpoints_stand, splits_stand}
 use Rattle.laws_clusters.proofs.ServerRules.{IsLaid}
+use Rattle.laws_clusters.proofs.SplitServers.{SplitsOwed}
 
 -- the events that come to servers, one after the other
 pub run_events : (batch count : ℕ) (events coming : List ServerEvent) → after_events (run_of batch count coming) events ≡ run_of batch count (events ++ coming)
@@ -48,7 +49,7 @@ module _ (nodes target batch count : ℕ) where
     -- ---- what is owed
 
     abbrev pub TakingOwes : ℕ → Type 0
-    TakingOwes s = (cell : ServerCell) (at : entry_at c.servers s ≡ Some cell) (st : ServerState) (is : cell.state ≡ Some st) → SplittingStands generation_at plenty nodes target c y x s cell st at is (whole s cell at st is)
+    TakingOwes s = (cell : ServerCell) (st : ServerState) (at : entry_at c.servers s ≡ Some cell) (is : cell.state ≡ Some st) → SplitsOwed generation_at nodes target c y x s cell st at is
 
     abbrev pub PacketOwes : Packet → ActorId → Type 0
     PacketOwes p (Server s) = TakingOwes s × IsLaid (run (Takes s p ∷ coming))
@@ -57,9 +58,9 @@ module _ (nodes target batch count : ℕ) where
 
     abbrev pub EventOwes : Event → Type 0
     EventOwes (Deliver number) = (p : Packet) → slice_get c.stream_layer.post number ≡ Some p → PacketOwes p p.to
-    EventOwes (GiveUp s range pick) = SplittingGivesUpThen generation_at plenty nodes target c y x whole s range pick × IsLaid (run (GivesUp s range pick ∷ coming))
+    EventOwes (GiveUp s range pick) = OwedPicked generation_at plenty nodes target c y x whole s range pick × IsLaid (run (GivesUp s range pick ∷ coming))
     EventOwes (Checkpoint s range combine) = IsLaid (run (Checkpoints s range combine ∷ coming))
-    EventOwes (Split s range key) = Stands base (cluster_after c (Split s range key)) (Splits s range key ∷ coming)
+    EventOwes (Split s range key) = IsLaid (run (Splits s range key ∷ coming))
     EventOwes event = Unit {0}
 
     -- ---- events
@@ -125,5 +126,5 @@ module _ (nodes target batch count : ℕ) where
     comes_on (Renew range server until) unmerged owes = renews_stand generation_at nodes target y c range server until x
     comes_on (Moment now) unmerged owes = moment_on now
     comes_on (Checkpoint s range combine) unmerged owes = checkpoints_stand generation_at plenty nodes target c y x whole s range combine owes
-    comes_on (Split s range key) unmerged owes = owes
+    comes_on (Split s range key) unmerged owes = splits_stand generation_at plenty nodes target c y x whole s range key owes
     comes_on (Merge server left right) unmerged owes = absurd unmerged

@@ -9,7 +9,6 @@ use Rattle.wire.specs.declared.body.ReadBody.TheVariants as reads
 use Rattle.wire.specs.declared.body.SealBody.TheVariants as seals
 use Rattle.wire.specs.declared.body.StreamBody.TheVariants as streams
 use Rattle.wire.specs.declared.packet.Packet.{Packet}
-use Rattle.wire.specs.declared.streams.Modify.{Modify}
 use Rattle.wire.specs.declared.streams.StreamName.{StreamName}
 use Rattle.replica.specs.Groups.{Group}
 use Rattle.model_streams.specs.StreamSystem.{StreamSystem}
@@ -40,20 +39,6 @@ RowsRequest w range (bodies.Stream (streams.OpenStreams r g q)) = ⊥
 RowsRequest w range (bodies.Stream (streams.Confirm r g q)) = ⊥
 RowsRequest w range (bodies.Stream (streams.Extend stream g last pick q)) = stream ≡ rows_of range
 RowsRequest w range body = Unit {0}
-
--- where streams are to be built, this one is none of them, or there already
-abbrev pub BuildsAside : StreamName → StreamSystem → Body → Type 0
-BuildsAside name w (bodies.Stream (streams.MultiModify list q)) = (m : Modify) → Contains list m → m.stream ≡ name → IsThere w name
-BuildsAside name w body = Unit {0}
-
-abbrev pub AllBuildAside : StreamName → StreamSystem → List Packet → Type 0
-AllBuildAside name w [] = Unit {0}
-AllBuildAside name w (p ∷ ps) = BuildsAside name w p.body × AllBuildAside name w ps
-
-pub builds_none_aside : (name : StreamName) (w : StreamSystem) (body : Body) → BuildsNone body → BuildsAside name w body
-builds_none_aside name w (bodies.Stream (streams.MultiModify list q)) none = λ m among same. absurd (none m among)
-builds_none_aside name w (bodies.Stream body) none = tt
-builds_none_aside name w body none = tt
 
 module _ (generation : ℕ → ℕ) (range : ℕ) (w : StreamSystem) (i : ℕ) (n k : Side) where
   -- the number has a purpose in one of the range's streams
@@ -111,30 +96,30 @@ module _ (generation : ℕ → ℕ) (range : ℕ) (w : StreamSystem) (i : ℕ) (
         of_another h (inl known) = known (one.elsewhere (not_one h)) (two.elsewhere (not_two h))
         of_another h (inr rows) = not_rows h rows.0
 
-    asked_elsewhere : (body : Body) → IsAsked generation (metadata_of range) w n.stand.state n.sent body → IsAsked generation (log_of range) w k.stand.state k.sent body → IsRowsElse sent body → BuildsAside name w body →
+    asked_elsewhere : (body : Body) → IsAsked generation (metadata_of range) w n.stand.state n.sent body → IsAsked generation (log_of range) w k.stand.state k.sent body → IsRowsElse sent body → IsThere w name →
         IsAsked generation name w whole.state sent body
-    asked_elsewhere (bodies.Append (appends.Append e g blocks q)) one two rows builds = of_extent e q one two (owner q (rows q refl))
-    asked_elsewhere (bodies.Append body) one two rows builds = tt
-    asked_elsewhere (bodies.Check (checks.Check e g q)) one two rows builds = of_extent e q one two (owner q (λ a b. absurd (rows q refl a b).0))
-    asked_elsewhere (bodies.Check body) one two rows builds = tt
-    asked_elsewhere (bodies.Read (reads.ReadGroups e upto sealed q)) one two rows builds = of_extent e q one two (owner q (λ a b. absurd (rows q refl a b).0))
-    asked_elsewhere (bodies.Read body) one two rows builds = tt
-    asked_elsewhere (bodies.Seal (seals.SealExtent e q)) one two rows builds = of_extent e q one two (owner q (rows q refl))
-    asked_elsewhere (bodies.Seal body) one two rows builds = tt
-    asked_elsewhere (bodies.Stream (streams.OpenStreams r g q)) one two rows builds = of_stream q one two (owner q (rows q refl)) (λ h a. apart (sym h ∙ a)) (λ h a. apart (sym h ∙ a)) (λ h a. a)
-    asked_elsewhere (bodies.Stream (streams.Confirm r g q)) one two rows builds = of_stream q one two (owner q (rows q refl)) (λ h a. apart (sym h ∙ a)) (λ h a. apart (sym h ∙ a)) (λ h a. a)
-    asked_elsewhere (bodies.Stream (streams.Extend stream g last pick q)) one two rows builds =
+    asked_elsewhere (bodies.Append (appends.Append e g blocks q)) one two rows there = of_extent e q one two (owner q (rows q refl))
+    asked_elsewhere (bodies.Append body) one two rows there = tt
+    asked_elsewhere (bodies.Check (checks.Check e g q)) one two rows there = of_extent e q one two (owner q (λ a b. absurd (rows q refl a b).0))
+    asked_elsewhere (bodies.Check body) one two rows there = tt
+    asked_elsewhere (bodies.Read (reads.ReadGroups e upto sealed q)) one two rows there = of_extent e q one two (owner q (λ a b. absurd (rows q refl a b).0))
+    asked_elsewhere (bodies.Read body) one two rows there = tt
+    asked_elsewhere (bodies.Seal (seals.SealExtent e q)) one two rows there = of_extent e q one two (owner q (rows q refl))
+    asked_elsewhere (bodies.Seal body) one two rows there = tt
+    asked_elsewhere (bodies.Stream (streams.OpenStreams r g q)) one two rows there = of_stream q one two (owner q (rows q refl)) (λ h a. apart (sym h ∙ a)) (λ h a. apart (sym h ∙ a)) (λ h a. a)
+    asked_elsewhere (bodies.Stream (streams.Confirm r g q)) one two rows there = of_stream q one two (owner q (rows q refl)) (λ h a. apart (sym h ∙ a)) (λ h a. apart (sym h ∙ a)) (λ h a. a)
+    asked_elsewhere (bodies.Stream (streams.Extend stream g last pick q)) one two rows there =
         of_stream q one two (owner q (rows q refl)) (λ h a. apart (ap (λ (z : StreamName). z.range) (sym h ∙ a))) (λ h a. apart (ap (λ (z : StreamName). z.range) (sym h ∙ a)))
         (λ h a. apart (ap (λ (z : StreamName). z.range) (sym h ∙ a)))
-    asked_elsewhere (bodies.Stream (streams.MultiModify list q)) one two rows builds = builds
-    asked_elsewhere (bodies.Stream body) one two rows builds = tt
-    asked_elsewhere body one two rows builds = tt
+    asked_elsewhere (bodies.Stream (streams.MultiModify list q)) one two rows there = λ m among same. there
+    asked_elsewhere (bodies.Stream body) one two rows there = tt
+    asked_elsewhere body one two rows there = tt
 
     -- what is asked of both streams of the range, and of its split, is asked as another range's stream sees it
-    pub all_elsewhere : (nodes target : ℕ) (after : Option RangeState) (job : Option SplitJob) (ps : List Packet) → AskedOfSplit generation range w i after job n k ps → AreRowsElse sent ps → AllBuildAside name w ps →
+    pub all_elsewhere : (nodes target : ℕ) (after : Option RangeState) (job : Option SplitJob) (ps : List Packet) → AskedOfSplit generation range w i after job n k ps → AreRowsElse sent ps → IsThere w name →
         AllAskedOf generation nodes target name w whole sent ps
-    all_elsewhere nodes target after job [] asked rows builds = tt
-    all_elsewhere nodes target after job (p ∷ ps) asked rows builds = (asked_elsewhere p.body asked.0.0 asked.0.1 rows.0 builds.0, all_elsewhere nodes target after job ps asked.1 rows.1 builds.1)
+    all_elsewhere nodes target after job [] asked rows there = tt
+    all_elsewhere nodes target after job (p ∷ ps) asked rows there = (asked_elsewhere p.body asked.0.0 asked.0.1 rows.0 there, all_elsewhere nodes target after job ps asked.1 rows.1 there)
 
   -- ---- streams of other ranges that are absent
 

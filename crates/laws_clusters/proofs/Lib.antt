@@ -46,11 +46,11 @@ pub mod StepShapes
 pub mod ServerNumbers
 pub mod ServerRules
 pub mod UnsplitSteps
-pub mod ServerPackets
 pub mod SplitPackets
 pub mod SplitStands
 pub mod SplitBehind
 pub mod SplitServers
+pub mod ServerPackets
 pub mod NewStreams
 pub mod BuiltAnswers
 pub mod FirstNumber
@@ -85,6 +85,7 @@ pub mod SplitPremises
 pub mod UntouchedStreams
 pub mod BuiltInRuns
 pub mod BornSo
+pub mod SplitNumbers
 pub mod Theorem
 pub mod EndedSplits
 pub mod ToldRanges

@@ -1,8 +1,7 @@
 -- A cluster stands on whatever a server takes, and where it is told to give up.
-use Rattle.std.proofs.Common.{◌≡◌, ◌⊎◌, ℕ, ◌-◌, ◌≤◌, Bool, true, false, List, [], ◌∷◌, ◌++◌, Option, Some, None, Contains, slice_set, is_some, refl, sym, ap, ◌∙◌, subst, inl, inr, arith, if◌then◌else◌, ◌==◌, ◌&&◌}
+use Rattle.std.proofs.Common.{◌≡◌, ◌⊎◌, ℕ, ◌-◌, ◌≤◌, Bool, true, false, not, ◌||◌, List, [], ◌∷◌, ◌++◌, Option, Some, None, Contains, slice_set, is_some, refl, sym, ap, ◌∙◌, subst, inl, inr, arith, if◌then◌else◌, ◌==◌, ◌&&◌}
 use Rattle.std.specs.BTreeMap.{insert_entry}
 use Rattle.std.specs.Ordering.{nat_cmp}
-use Rattle.std.proofs.lemmas.Option.{same_Some}
 use Rattle.block_types.specs.declared.record.Nodes.{Nodes}
 use Rattle.wire.specs.declared.actor.ActorId.{ActorId}
 use Rattle.wire.specs.declared.actor.ActorId.TheVariants.{Map, Server}
@@ -28,7 +27,7 @@ use Rattle.model_streams.specs.Outcome.{packet}
 use Rattle.model_streams.specs.StreamSystem.{StreamSystem, sent_more}
 use Rattle.model_histories.specs.ServerTurns.{after_all}
 use Rattle.model_partition.specs.Answering.{answered_number, is_answerer, answer_rule, give_up_all}
-use Rattle.model_partition.specs.Servers.{ServerCell, ServersOutcome, cell_takes, cell_rests, cell_performs, cell_gives_up, cell_given_up, cell_checkpoints, at_server, server_takes, server_gives_up, server_checkpoints}
+use Rattle.model_partition.specs.Servers.{ServerCell, ServersOutcome, cell_takes, cell_rests, cell_performs, cell_gives_up, cell_given_up, cell_checkpoints, cell_splits, at_server, server_takes, server_gives_up, server_checkpoints, server_splits}
 use Rattle.model_partition.specs.Checkpoints.{checkpoint_fault, checkpoint_rule}
 use Rattle.wire.specs.declared.refusal.Refusal.{Refusal}
 use Rattle.wire.specs.declared.actor.ReqNo.TheVariants as requests
@@ -36,21 +35,24 @@ use Rattle.client.specs.Client.{awaits}
 use Rattle.model_partition.specs.Cluster.{Cluster, servers_perform}
 use Rattle.model_partition.specs.declared.split_job.SplitJob.{SplitJob}
 use Rattle.model_partition.specs.Getting.{get_rule}
-use Rattle.model_partition.specs.Range.{RangeState, RangeOutcome, request, refuses, waiting_out}
-use Rattle.model_partition.specs.Splits.{SplitStep}
-use Rattle.model_partition.specs.Server.{ServerState, ServerOutcome, range_of, awaiting, rests, sends_one, split_of, split_awaiting, split_answer, merge_with, stepped, stepped_alone, new_range, users_of, is_newer, assigned, assign_rule, told_by_map, map_rule, transacts_in, gets_in, table_rule, answer_in, answer_of, numbered_rule, taken_rule, has_numbers, server_rule, given_up, gives_up, picked, give_up_rule, busy_if, has_jobs, checkpoint_refused, checkpoints_in, server_checkpoint}
-use Rattle.model_histories.specs.ServerRun.{ServerRun, RangeEffect, Begins, Does, Rests, Takes, GivesUp, Checkpoints, first_history, with_effect, with_outcome, after_event, told_effect, map_effect, transact_effect, get_effect, table_effect, answer_effect, split_effect, awaited_effect, numbered_effect, packet_effect, server_effect, cell_effect}
+use Rattle.model_partition.specs.Range.{RangeState, RangeOutcome, request, refuses, waiting_out, is_serving, is_paused}
+use Rattle.model_partition.specs.Splits.{SplitStep, phase_awaits, split_fault, split_rule}
+use Rattle.model_partition.specs.Map.{is_split_key}
+use Rattle.model_streams.proofs.Tests.{none_met}
+use Rattle.laws_ranges.proofs.Stages.{serving_only}
+use Rattle.model_partition.specs.Server.{ServerState, ServerOutcome, range_of, split_of, split_awaiting, counted, stepped_with, stepped_splitting, given_up_with, split_answer_in, split_answer, awaiting, rests, sends_one, merge_with, stepped, stepped_alone, new_range, users_of, is_newer, assigned, assign_rule, told_by_map, map_rule, transacts_in, gets_in, table_rule, answer_in, answer_of, numbered_rule, taken_rule, has_numbers, server_rule, given_up, gives_up, picked, give_up_rule, busy_if, has_jobs, checkpoint_refused, checkpoints_in, server_checkpoint, split_refused, splits_in, split_stepped, server_split}
+use Rattle.model_histories.specs.ServerRun.{ServerRun, RangeEffect, Begins, Does, Rests, Takes, GivesUp, Checkpoints, Splits, first_history, with_effect, with_outcome, after_event, told_effect, map_effect, transact_effect, follow_effect, get_effect, table_effect, answer_effect, split_effect_in, split_effect, awaited_effect, numbered_effect, packet_effect, server_effect, cell_effect}
 use Rattle.model_partition.specs.Serving.{transact_rule}
-use Rattle.model_histories.specs.StreamActions.{StreamAction, transact_actions, answer_actions}
+use Rattle.model_histories.specs.StreamActions.{StreamAction, transact_actions, answer_actions, split_stood, followed_actions}
 use Rattle.laws_stream_machine.specs.Refinement.{Sent, asked_number}
 use Rattle.laws_ranges.specs.Seen.{BeganAt}
-use Rattle.laws_ranges.specs.Serves.{Stand, Side, metadata_of, log_of, after_turns, IsPastRows, FollowsIf, IsSentBy, AreAsked}
+use Rattle.laws_ranges.specs.Serves.{Stand, Side, log_of, after_turns, IsPastRows, FollowsIf, IsSentBy, AreAsked}
 use Rattle.laws_ranges.specs.SplitJobs.{FollowsBothIf, AskedOfSplit, silent}
 use Rattle.laws_ranges.proofs.SplitSteps.{asked_widely}
 use Rattle.laws_ranges.proofs.ServedRules.{asked_of_both}
 use Rattle.laws_ranges.proofs.LogRules.{refused_plain}
 use Rattle.laws_ranges.proofs.BothStreamsAtOnce.{taken}
-use Rattle.laws_server_runs.specs.Places.{AreAscending}
+use Rattle.laws_server_runs.specs.Places.{AllAbove, AreAscending}
 use Rattle.laws_server_runs.specs.RunInvariant.{view_at}
 use Rattle.laws_servers.specs.Sending.{AllFromRanges}
 use Rattle.laws_servers.proofs.ClientPackets.{all_both, from_servers, may_send_all}
@@ -60,7 +62,9 @@ use Rattle.laws_clusters.proofs.RangeSteps as going
 use Rattle.laws_loads.proofs.Entries.{entry_set, set_twice}
 use Rattle.laws_server_runs.proofs.Actions.{same_test}
 use Rattle.laws_server_runs.proofs.StatesKept.{opened}
-use Rattle.laws_server_runs.proofs.Unmerged.{HasNoMerge, HaveNoMerges, assigned_unmerged, unawaited_merge, jobs_unmerged}
+use Rattle.laws_map.specs.Naming.{IsAbove, IsRising}
+use Rattle.laws_map.proofs.Rising.{awaits_itself}
+use Rattle.laws_server_runs.proofs.Unmerged.{HasNoMerge, HaveNoMerges, stepped_unmerged, given_up_unmerged, assigned_unmerged, answer_unmerged, unawaited_merge, jobs_unmerged}
 use Rattle.laws_clusters.proofs.UnsplitSteps.{transact_effect_alone, get_effect_alone, answer_effect_alone, stepped_alone_is, answer_alone, given_up_alone}
 use Rattle.laws_server_runs.proofs.Unsplit.{not_refused}
 use Rattle.laws_server_runs.proofs.RangeLists.{inserted_here, inserted_other, ascending_inserted, dropped_here, dropped_other, left_here, left_other, ascending_left}
@@ -72,6 +76,8 @@ use Rattle.laws_clusters.proofs.MapWords.{IsFounded, IsWord, IsMapWord}
 use Rattle.laws_clusters.proofs.Invariant.{HeldAt, Machines, here, m_side, l_side, Holds, IsHeld, Runs, Standing, OfRows, Out, Bases}
 use Rattle.laws_clusters.proofs.ServerNumbers as numbers
 use Rattle.laws_clusters.proofs.ServerRules as steps
+use Rattle.laws_clusters.proofs.SplitServers as splits
+use Rattle.laws_clusters.proofs.SplitServers.{SplitsOwed, LeavingOwed, none_leaving}
 use Rattle.laws_clusters.proofs.ServerRules.{IsLaid, AreLaid, laid_behind}
 use Rattle.laws_clusters.proofs.StepShapes.{AreLeft, RowsWaited, StepWaits}
 use Rattle.laws_clusters.proofs.ClientJobs.{AsksBy, ReadsNothing}
@@ -81,11 +87,20 @@ use Rattle.laws_clusters.proofs.RowSteps.{IsNew}
 use Rattle.laws_clusters.proofs.Elsewhere.{builds_own}
 use Rattle.laws_clusters.proofs.RangeStreams.{IsOfSplit}
 use Rattle.laws_clusters.proofs.RequestNumbers.{used_number, asked_used}
-use Rattle.laws_clusters.proofs.SplitRequests.{sent_in, clients_send, in_used, split_joined, builds_aside}
+use Rattle.laws_clusters.proofs.SplitRequests.{sent_in, clients_send, in_used, split_joined}
 
 -- the step of a range that is not split
 abbrev alone_step : RangeOutcome → SplitStep
 alone_step o = record { range = o.after; job = None; count = o.count; packets = o.packets }
+
+-- splits in the order of their ranges
+all_above : (k : ℕ) (js : List (ℕ × SplitJob)) → AllAbove k js → IsAbove k js
+all_above k [] a = tt
+all_above k (x ∷ js) a = (a.0, all_above k js a.1)
+
+rising : (js : List (ℕ × SplitJob)) → AreAscending js → IsRising js
+rising [] a = tt
+rising (x ∷ js) a = (all_above x.0 js a.0, rising js a.1)
 
 -- ---- one range
 
@@ -144,8 +159,7 @@ module _ (generation : ℕ → ℕ) (plenty : (g n : ℕ) → (i : ℕ) × (n �
       abbrev l_then : (i : ℕ) (b : ServerRun) (t : SplitStep) (actions : List StreamAction) → Acted generation nodes target c y x range founded i st.context (view_at range b s) t actions → Side
       l_then i b t actions acted = going.l_after generation nodes target x.moves range z i st.context (silent t) (FollowsBothIf generation range w i t.job) acted.rule.step.goes
 
-      -- what a rule of the range leaves
-      -- it asks to build nothing
+      -- a rule of the range asks to build nothing
       no_lists : (i : ℕ) (left : Option RangeState) (a b : Side) (ps : List Packet) → AskedOfSplit generation range w i left None a b ps → (server : ℕ) (to : ActorId) (list : List Modify) (q : ReqNo) →
           Contains ps (packet (Server server) to (bodies.Stream (streams.MultiModify list q))) → (m : Modify) → Contains list m → IsOfSplit c.stream_layer list
       no_lists i left a b ps asked server to list q now m among = elim (builds_own generation range w i a b left None ps asked (packet (Server server) to (bodies.Stream (streams.MultiModify list q))) now) [
@@ -153,6 +167,7 @@ module _ (generation : ℕ → ℕ) (plenty : (g n : ℕ) → (i : ℕ) × (n �
         | inr never ↦ absurd never
       ]
 
+      -- and leaves this
       done_good : split_of st.splits range ≡ None → (i : ℕ) → ((t j : ℕ) → x.incarnation t j ≡ Some i → (t ≡ s) × (j ≡ range)) → BeganAt ((y.history s range).append kinds.Metadata) ((after_all Group generation z.m).phase i) →
           BeganAt ((y.history s range).append kinds.Log) ((after_all Group generation z.l).phase i) → (o : RangeOutcome) (actions : List StreamAction) →
           Done generation nodes target c y x range founded i st.context (view_at range y s) o actions → AllFromRanges o.packets → StepWaits st range (alone_step o) o.packets →
@@ -163,10 +178,7 @@ module _ (generation : ℕ → ℕ) (plenty : (g n : ℕ) → (i : ℕ) × (n �
           let acted : Acted generation nodes target c y x range founded i st.context (view_at range y s) (alone_step o) actions = done_alone generation nodes target c y x range founded i st.context by (view_at range y s) o actions k in
           λ laid. steps.stepped generation nodes target c y x s cell st at is range founded i alone y same_run record_began began (alone_step o) o.notes actions acted o.packets (may_send_all o.packets (from_servers o.packets senders)) waits acted.rule.step.asked (λ none. refl) gone
           (no_lists i o.after (m_then i y (alone_step o) actions acted) (l_then i y (alone_step o) actions acted) o.packets acted.rule.step.asked)
-          (λ j apart. (
-            builds_aside generation range i w o.after None (m_then i y (alone_step o) actions acted) (l_then i y (alone_step o) actions acted) (metadata_of j) (λ body never. absurd never) o.packets acted.rule.step.asked,
-            builds_aside generation range i w o.after None (m_then i y (alone_step o) actions acted) (l_then i y (alone_step o) actions acted) (log_of j) (λ body never. absurd never) o.packets acted.rule.step.asked,
-          )) (none_from_map o.packets (from_servers o.packets senders)) after context_is shape
+          (none_from_map o.packets (from_servers o.packets senders)) after context_is shape
           (record { ascending = subst (λ l. AreAscending l) (sym splits) run.splits_ascending; here = ap (λ l. split_of l range) splits ∙ unsplit; others = λ j apart. ap (λ l. split_of l j) splits }) laid
 
       -- ---- it is taken
@@ -231,10 +243,7 @@ module _ (generation : ℕ → ℕ) (plenty : (g n : ℕ) → (i : ℕ) × (n �
             (asked_of_both generation range w i (both generation nodes target c y x range founded) o.after a b acted.rule.step.goes.sent_by.apart (users_of st.context known) (users_plain (log_of range) b.stand b.sent known))) acted.rule.step.asked in
             λ laid. steps.stepped generation nodes target c y x s cell st at is range founded i (fresh_alone i free) begun near (fresh_recorded i ((begun.history s range).append kinds.Metadata) free) (fresh_began i ((begun.history s range).append kinds.Log) free) (alone_step o) [] [] acted
             ps (may_send_all ps (from_servers ps senders)) waits asked (λ none. refl) (λ none. absurd (let never : Some next ≡ None = none in cc)) (no_lists i o.after a b ps asked)
-            (λ j apart. (
-              builds_aside generation range i w o.after None a b (metadata_of j) (λ body never. absurd never) ps asked,
-              builds_aside generation range i w o.after None a b (log_of j) (λ body never. absurd never) ps asked,
-            )) (none_from_map ps (from_servers ps senders))
+            (none_from_map ps (from_servers ps senders))
             (opened st range (generation i) until) refl inserted
             (record { ascending = ascending_left st.splits range None run.splits_ascending; here = dropped_here st.splits range run.splits_ascending; others = λ j apart. dropped_other st.splits range j apart }) laid
 
@@ -381,88 +390,148 @@ module _ (generation : ℕ → ℕ) (plenty : (g n : ℕ) → (i : ℕ) × (n �
               (checkpoint_tidy st.context r combine).0 (checkpoint_leaves st.context r combine)
           go false = rests_good
 
-    -- ---- what a server takes
+    -- what is so of a range that is not split, and of one that is, is so of it
+    by_split : (range : ℕ) {P : Type 0} → (split_of st.splits range ≡ None → P) → ((job : SplitJob) → split_of st.splits range ≡ Some job → P) → P
+    by_split range {P} alone splitting = go (split_of st.splits range) refl
+      where
+        go : (j : Option SplitJob) → split_of st.splits range ≡ j → P
+        go None e = alone e
+        go (Some job) e = splitting job e
 
-    -- what is owed of ranges that are being split
-    pub record SplittingStands : Type 0 where
-      pub transacts : (p : Packet) (range : ℕ) (changes : List Change) (q : ReqNo) (r : RangeState) (job : SplitJob) → range_of st.ranges range ≡ Some r → split_of st.splits range ≡ Some job →
-          Good (transact_effect st p range changes q (Some r)) (transacts_in st p range changes q (Some r))
-      pub gets : (p : Packet) (range : ℕ) (key : List ℕ) (q : ReqNo) (r : RangeState) (job : SplitJob) → range_of st.ranges range ≡ Some r → split_of st.splits range ≡ Some job →
-          Good (get_effect st p range key q (Some r)) (gets_in st p range key q (Some r))
-      pub answers : (p : Packet) → Contains w.post (packet p.from (Server s) p.body) → is_answerer p.from p.body ≡ true → (v : ReqNo) → answered_number p.body ≡ Some v → (range : ℕ) (r : RangeState) (job : SplitJob) →
-          range_of st.ranges range ≡ Some r → split_of st.splits range ≡ Some job → Good (answer_effect st p v range (Some r)) (answer_in st p v range (Some r))
-      -- an answer that the split of a range waits for, and no range
-      pub hears : (p : Packet) → Contains w.post (packet p.from (Server s) p.body) → is_answerer p.from p.body ≡ true → (v : ReqNo) → answered_number p.body ≡ Some v → awaiting st.ranges v ≡ None → (range : ℕ) →
-          split_awaiting st.splits v ≡ Some range → Good (split_effect st p (Some range)) (split_answer st p v (Some range))
+    checkpoint_good : (range : ℕ) (combine : Bool) → Good Rests (server_checkpoint st range combine)
+    checkpoint_good range combine = by_range (range_of st.ranges range) refl
+      where
+        jobs : Bool
+        jobs = has_jobs st range
 
-    -- the same where it is told to give up
-    abbrev pub SplittingGivesUp : Type 0
-    SplittingGivesUp = (range : ℕ) (r : RangeState) (job : SplitJob) → range_of st.ranges range ≡ Some r → split_of st.splits range ≡ Some job → Good Rests (given_up st range (merge_with st.merges range) (give_up_all st.context r))
+        is_busy : (job : SplitJob) → split_of st.splits range ≡ Some job → has_jobs st range ≡ true
+        is_busy job was = jobs_unmerged st whole range ∙ ap (λ j. is_some j) was
 
-    no_split : st.splits ≡ [] → (range : ℕ) (job : SplitJob) → split_of st.splits range ≡ Some job → ⊥
-    no_split none range job found = let c : None ≡ Some job = sym (ap (λ l. split_of l range) none) ∙ found in cc
+        busy_never : (fault : Option Refusal) → busy_if true fault ≡ None → ⊥
+        busy_never None e = let z : Some refusals.Busy ≡ None = e in cc
+        busy_never (Some why) e = let z : Some why ≡ None = e in cc
 
-    -- nothing is owed where none is being split
-    pub none_stands : st.splits ≡ [] → SplittingStands
-    none_stands none = record {
-      transacts = λ p range changes q r job found job_is. absurd (no_split none range job job_is);
-      gets = λ p range key q r job found job_is. absurd (no_split none range job job_is);
-      answers = λ p there gives v number range r job found job_is. absurd (no_split none range job job_is);
-      hears = λ p there gives v number nobody range waits. absurd (let c : None ≡ Some range = sym (ap (λ l. split_awaiting l v) none) ∙ waits in cc);
-    }
+        by_fault : (r : RangeState) → range_of st.ranges range ≡ Some r → (fault : Option Refusal) → busy_if jobs (checkpoint_fault r) ≡ fault → Good Rests (if is_some fault then rests st else checkpoints_in st range combine (Some r))
+        by_fault r found None may = by_split range (λ unsplit. checkpoint_held range r found unsplit combine (not_refused jobs (checkpoint_fault r) may)) (λ job was. absurd (busy_never (checkpoint_fault r) (sym (ap (λ b. busy_if b (checkpoint_fault r)) (is_busy job was)) ∙ may)))
+        by_fault r found (Some why) refused = rests_good
 
-    pub none_gives_up : st.splits ≡ [] → SplittingGivesUp
-    none_gives_up none range r job found job_is = absurd (no_split none range job job_is)
+        by_range : (known : Option RangeState) → range_of st.ranges range ≡ known → Good Rests (if is_some (checkpoint_refused jobs known) then rests st else checkpoints_in st range combine known)
+        by_range None found = rests_good
+        by_range (Some r) found = by_fault r found (busy_if jobs (checkpoint_fault r)) refl
 
-    module _ (splitting : SplittingStands) where
+    -- a split begins
+    split_good : (range : ℕ) (key : List ℕ) → Good Rests (server_split st range key)
+    split_good range key = by_range (range_of st.ranges range) refl
+      where
+        jobs : Bool
+        jobs = has_jobs st range
+
+        is_busy : (job : SplitJob) → split_of st.splits range ≡ Some job → has_jobs st range ≡ true
+        is_busy job was = jobs_unmerged st whole range ∙ ap (λ j. is_some j) was
+
+        or_first : (a b : Bool) → (a || b) ≡ false → a ≡ false
+        or_first true b e = absurd cc
+        or_first false b e = refl
+
+        is_true : (b : Bool) → not b ≡ false → b ≡ true
+        is_true true e = refl
+        is_true false e = absurd cc
+
+        begins : (r : RangeState) → range_of st.ranges range ≡ Some r → split_fault r jobs key ≡ None → (b : Bool) → Good Rests (if b then split_stepped st range (split_rule st.context r key) else rests st)
+        begins r found may true =
+            let unmet = none_met ((refusals.Loading, not (is_serving r.stage)) ∷ (refusals.Paused, is_paused r.pause) ∷ (refusals.Busy, jobs || (is_some r.control || is_some r.fixed)) ∷ (refusals.BadSplitKey, not (is_split_key r.said.keys key)) ∷ []) may in
+            by_split range
+            (λ unsplit. splits.begins_good generation nodes target c y x s cell st at is range r found unsplit (serving_only r.stage (is_true (is_serving r.stage) unmet.0)) key)
+            (λ job was. absurd (let z : true ≡ false = sym (is_busy job was) ∙ or_first jobs (is_some r.control || is_some r.fixed) unmet.1.1.0 in cc))
+        begins r found may false = rests_good
+
+        by_fault : (r : RangeState) → range_of st.ranges range ≡ Some r → (fault : Option Refusal) → split_fault r jobs key ≡ fault → Good Rests (if is_some fault then rests st else splits_in st range key (Some r))
+        by_fault r found None may = begins r found may (has_numbers st.context)
+        by_fault r found (Some why) refused = rests_good
+
+        by_range : (known : Option RangeState) → range_of st.ranges range ≡ known → Good Rests (if is_some (split_refused jobs key known) then rests st else splits_in st range key known)
+        by_range None found = rests_good
+        by_range (Some r) found = by_fault r found (split_fault r jobs key) refl
+
+    -- where this is owed of ranges that are split
+    module _ (owed : SplitsOwed generation nodes target c y x s cell st at is) where
+      -- ---- a range that is split
+
+      module _ (range : ℕ) (r : RangeState) (found : range_of st.ranges range ≡ Some r) (job : SplitJob) (was : split_of st.splits range ≡ Some job) where
+        stepped_so : (o : RangeOutcome) → stepped st range o ≡ stepped_splitting st range job o o.after
+        stepped_so o = stepped_unmerged st whole range o ∙ ap (λ j. stepped_with st range j o) was
+
+        transact_split : (p : Packet) (changes : List Change) (q : ReqNo) → Good (transact_effect st p range changes q (Some r)) (transacts_in st p range changes q (Some r))
+        transact_split p changes q =
+            let o : RangeOutcome = transact_rule st.context r p.from q changes in
+            subst (λ e. Good e (transacts_in st p range changes q (Some r))) (sym (ap (λ j. Does range r.load.generation (followed_actions (counted st.context o) j o.after ++ transact_actions r o)) was))
+            (subst (Good (Does range r.load.generation (followed_actions (counted st.context o) (Some job) o.after ++ transact_actions r o))) (sym (stepped_so o))
+            (splits.transact_good generation nodes target c y x s cell st at is range r found job was p.from q changes (owed.transacts range r found job was p.from q changes)))
+
+        get_split : (p : Packet) (key : List ℕ) (q : ReqNo) → Good (get_effect st p range key q (Some r)) (gets_in st p range key q (Some r))
+        get_split p key q =
+            let o : RangeOutcome = get_rule st.context r p.from q key in
+            subst (λ e. Good e (gets_in st p range key q (Some r))) (sym (ap (λ j. follow_effect st range r j o) was))
+            (subst (Good (follow_effect st range r (Some job) o)) (sym (stepped_so o))
+            (splits.get_good generation nodes target c y x s cell st at is range r found job was p.from q key (owed.gets range r found job was p.from q key)))
+
+        answer_split : (p : Packet) → Contains c.stream_layer.post p → p.to ≡ Server s → Contains w.post (packet p.from (Server s) p.body) → is_answerer p.from p.body ≡ true → (v : ReqNo) → answered_number p.body ≡ Some v →
+            Good (answer_effect st p v range (Some r)) (answer_in st p v range (Some r))
+        answer_split p sent to there gives v number =
+            let o : RangeOutcome = answer_rule st.context r v p.body in
+            let actions : List StreamAction = answer_actions st.context r v p.body o in
+            subst (λ e. Good e (answer_in st p v range (Some r))) (sym (ap (λ j. Does range r.load.generation (followed_actions (counted st.context o) j o.after ++ (split_stood st.context r j v p.body o ++ actions))) was))
+            (subst (Good (Does range r.load.generation (followed_actions (counted st.context o) (Some job) o.after ++ (split_stood st.context r (Some job) v p.body o ++ actions)))) (sym (answer_unmerged st whole p v range r ∙ ap (λ j. stepped_with st range j o) was))
+            (splits.answer_good generation nodes target c y x s cell st at is range r found job was p there gives v number (owed.answers range r found job was p sent to v)))
+
+        hear_split : (p : Packet) → Contains c.stream_layer.post p → p.to ≡ Server s → Contains w.post (packet p.from (Server s) p.body) → is_answerer p.from p.body ≡ true → (v : ReqNo) → answered_number p.body ≡ Some v → phase_awaits job.phase v ≡ true →
+            Good (split_effect_in st p (Some r) (Some job)) (split_answer_in st p range (Some r) (Some job))
+        hear_split p sent to there gives v number waits = splits.reply_good generation nodes target c y x s cell st at is range r found job was p there gives v number waits (owed.hears range r found job was p sent to v number waits)
+
+      -- ---- what a server takes
+
       transact_good : (p : Packet) (range : ℕ) (changes : List Change) (q : ReqNo) (o : Option RangeState) → range_of st.ranges range ≡ o → Good (transact_effect st p range changes q o) (transacts_in st p range changes q o)
       transact_good p range changes q None found = refuse_good p.from q
-      transact_good p range changes q (Some r) found = go (split_of st.splits range) refl
-        where
-          go : (job : Option SplitJob) → split_of st.splits range ≡ job → Good (transact_effect st p range changes q (Some r)) (transacts_in st p range changes q (Some r))
-          go None is_it = transact_held range r found is_it p changes q
-          go (Some job) is_it = splitting.transacts p range changes q r job found is_it
+      transact_good p range changes q (Some r) found = by_split range (λ e. transact_held range r found e p changes q) (λ job e. transact_split range r found job e p changes q)
 
       get_good : (p : Packet) (range : ℕ) (key : List ℕ) (q : ReqNo) (o : Option RangeState) → range_of st.ranges range ≡ o → Good (get_effect st p range key q o) (gets_in st p range key q o)
       get_good p range key q None found = refuse_good p.from q
-      get_good p range key q (Some r) found = go (split_of st.splits range) refl
-        where
-          go : (job : Option SplitJob) → split_of st.splits range ≡ job → Good (get_effect st p range key q (Some r)) (gets_in st p range key q (Some r))
-          go None is_it = get_held range r found is_it p key q
-          go (Some job) is_it = splitting.gets p range key q r job found is_it
+      get_good p range key q (Some r) found = by_split range (λ e. get_held range r found e p key q) (λ job e. get_split range r found job e p key q)
 
       table_good : (p : Packet) (body : TableBody) → Good (table_effect st p body) (table_rule st p body)
       table_good p (tables.Transact range changes q) = transact_good p range changes q (range_of st.ranges range) refl
       table_good p (tables.Get range key q) = get_good p range key q (range_of st.ranges range) refl
       table_good p body = rests_good
 
-      answer_good : (p : Packet) → Contains w.post (packet p.from (Server s) p.body) → is_answerer p.from p.body ≡ true → (v : ReqNo) → answered_number p.body ≡ Some v → (range : ℕ) (o : Option RangeState) →
-          range_of st.ranges range ≡ o → Good (answer_effect st p v range o) (answer_in st p v range o)
-      answer_good p there gives v number range None found = rests_good
-      answer_good p there gives v number range (Some r) found = go (split_of st.splits range) refl
-        where
-          go : (job : Option SplitJob) → split_of st.splits range ≡ job → Good (answer_effect st p v range (Some r)) (answer_in st p v range (Some r))
-          go None is_it = answer_held range r found is_it p there gives v number
-          go (Some job) is_it = splitting.answers p there gives v number range r job found is_it
+      module _ (p : Packet) (sent : Contains c.stream_layer.post p) (to : p.to ≡ Server s) where
+        there : Contains w.post (packet p.from (Server s) p.body)
+        there = subst (λ z. Contains w.post (packet p.from z p.body)) to (subst (λ (z : StreamSystem). Contains z.post p) (sym x.leads) sent)
 
-      -- no range waits for it
-      unawaited_good : (p : Packet) → Contains w.post (packet p.from (Server s) p.body) → is_answerer p.from p.body ≡ true → (v : ReqNo) → answered_number p.body ≡ Some v → awaiting st.ranges v ≡ None → (o : Option ℕ) →
-          split_awaiting st.splits v ≡ o → Good (split_effect st p o) (split_answer st p v o)
-      unawaited_good p there gives v number nobody None waits = subst (Good Rests) (sym (unawaited_merge st whole p v)) rests_good
-      unawaited_good p there gives v number nobody (Some range) waits = splitting.hears p there gives v number nobody range waits
+        module _ (gives : is_answerer p.from p.body ≡ true) (v : ReqNo) (number : answered_number p.body ≡ Some v) where
+          answer_good : (range : ℕ) (o : Option RangeState) → range_of st.ranges range ≡ o → Good (answer_effect st p v range o) (answer_in st p v range o)
+          answer_good range None found = rests_good
+          answer_good range (Some r) found = by_split range (λ e. answer_held range r found e p there gives v number) (λ job e. answer_split range r found job e p sent to there gives v number)
 
-      awaited_good : (p : Packet) → Contains w.post (packet p.from (Server s) p.body) → is_answerer p.from p.body ≡ true → (v : ReqNo) → answered_number p.body ≡ Some v → (o : Option ℕ) → awaiting st.ranges v ≡ o →
-          Good (awaited_effect st p v o) (answer_of st p v o)
-      awaited_good p there gives v number None nobody = unawaited_good p there gives v number nobody (split_awaiting st.splits v) refl
-      awaited_good p there gives v number (Some range) somebody = answer_good p there gives v number range (range_of st.ranges range) refl
+          hear_in : (range : ℕ) → split_awaiting st.splits v ≡ Some range → (o : Option RangeState) → range_of st.ranges range ≡ o → (j : Option SplitJob) → split_of st.splits range ≡ j → Good (split_effect_in st p o j) (split_answer_in st p range o j)
+          hear_in range waits (Some r) found (Some job) e = hear_split range r found job e p sent to there gives v number (awaits_itself st.splits v range job (rising st.splits run.splits_ascending) waits e)
+          hear_in range waits (Some r) found None e = rests_good
+          hear_in range waits None found j e = rests_good
 
-      numbered_good : (p : Packet) → Contains w.post (packet p.from (Server s) p.body) → (o : Option ReqNo) → answered_number p.body ≡ o → Good (numbered_effect st p o) (numbered_rule st p o)
-      numbered_good p there None e = rests_good
-      numbered_good p there (Some v) e = go (is_answerer p.from p.body) refl
-        where
-          go : (b : Bool) → is_answerer p.from p.body ≡ b → Good (if b then awaited_effect st p v (awaiting st.ranges v) else Rests) (if b then answer_of st p v (awaiting st.ranges v) else rests st)
-          go true gives = awaited_good p there gives v e (awaiting st.ranges v) refl
-          go false gives = rests_good
+          hear_good : (o : Option ℕ) → split_awaiting st.splits v ≡ o → Good (split_effect st p o) (split_answer st p v o)
+          hear_good None e = subst (Good Rests) (sym (unawaited_merge st whole p v)) rests_good
+          hear_good (Some range) e = hear_in range e (range_of st.ranges range) refl (split_of st.splits range) refl
+
+          awaited_good : (o : Option ℕ) → Good (awaited_effect st p v o) (answer_of st p v o)
+          awaited_good None = hear_good (split_awaiting st.splits v) refl
+          awaited_good (Some range) = answer_good range (range_of st.ranges range) refl
+
+        numbered_good : (o : Option ReqNo) → answered_number p.body ≡ o → Good (numbered_effect st p o) (numbered_rule st p o)
+        numbered_good None e = rests_good
+        numbered_good (Some v) e = go (is_answerer p.from p.body) refl
+          where
+            go : (b : Bool) → is_answerer p.from p.body ≡ b → Good (if b then awaited_effect st p v (awaiting st.ranges v) else Rests) (if b then answer_of st p v (awaiting st.ranges v) else rests st)
+            go true gives = awaited_good gives v e (awaiting st.ranges v)
+            go false gives = rests_good
 
       -- what the map tells of leases is of a range with a number
       word_good : (body : MapBody) → IsMapWord c.stream_layer body → Good (told_effect st body) (told_by_map st body)
@@ -487,19 +556,16 @@ module _ (generation : ℕ → ℕ) (plenty : (g n : ℕ) → (i : ℕ) × (n �
       taken_body : (p : Packet) → Contains c.stream_layer.post p → p.to ≡ Server s → (b : Body) → p.body ≡ b → Good (packet_effect st p b) (taken_rule st p b)
       taken_body p there to b e = go b e
         where
-          in_post : Contains w.post (packet p.from (Server s) p.body)
-          in_post = subst (λ z. Contains w.post (packet p.from z p.body)) to (subst (λ (z : StreamSystem). Contains z.post p) (sym x.leads) there)
-
           go : (b : Body) → p.body ≡ b → Good (packet_effect st p b) (taken_rule st p b)
           go (bodies.Map (maps.Assign range g until)) e = from_map_good p (maps.Assign range g until) e there
           go (bodies.Map (maps.Renew range g until)) e = from_map_good p (maps.Renew range g until) e there
-          go (bodies.Map body) e = numbered_good p in_post (answered_number (bodies.Map body)) (ap answered_number e)
+          go (bodies.Map body) e = numbered_good p there to (answered_number (bodies.Map body)) (ap answered_number e)
           go (bodies.Table body) e = table_good p body
-          go (bodies.Append body) e = numbered_good p in_post (answered_number (bodies.Append body)) (ap answered_number e)
-          go (bodies.Check body) e = numbered_good p in_post (answered_number (bodies.Check body)) (ap answered_number e)
-          go (bodies.Seal body) e = numbered_good p in_post (answered_number (bodies.Seal body)) (ap answered_number e)
-          go (bodies.Read body) e = numbered_good p in_post (answered_number (bodies.Read body)) (ap answered_number e)
-          go (bodies.Stream body) e = numbered_good p in_post (answered_number (bodies.Stream body)) (ap answered_number e)
+          go (bodies.Append body) e = numbered_good p there to (answered_number (bodies.Append body)) (ap answered_number e)
+          go (bodies.Check body) e = numbered_good p there to (answered_number (bodies.Check body)) (ap answered_number e)
+          go (bodies.Seal body) e = numbered_good p there to (answered_number (bodies.Seal body)) (ap answered_number e)
+          go (bodies.Read body) e = numbered_good p there to (answered_number (bodies.Read body)) (ap answered_number e)
+          go (bodies.Stream body) e = numbered_good p there to (answered_number (bodies.Stream body)) (ap answered_number e)
 
       rule_good : (p : Packet) → Contains c.stream_layer.post p → p.to ≡ Server s → Good (server_effect p (Some st)) (server_rule st p p.body)
       rule_good p there to = go (has_numbers st.context)
@@ -508,42 +574,25 @@ module _ (generation : ℕ → ℕ) (plenty : (g n : ℕ) → (i : ℕ) × (n �
           go true = taken_body p there to p.body refl
           go false = rests_good
 
-    give_up_rule_good : SplittingGivesUp → (range : ℕ) (o : ServerOutcome) → gives_up st range (range_of st.ranges range) ≡ Some o → Good Rests o
-    give_up_rule_good splitting range o e = go (range_of st.ranges range) refl e
-      where
-        by_numbers : (r : RangeState) → range_of st.ranges range ≡ Some r → (job : SplitJob) → split_of st.splits range ≡ Some job → (b : Bool) →
-            Some (if b then given_up st range (merge_with st.merges range) (give_up_all st.context r) else rests st) ≡ Some o → Good Rests o
-        by_numbers r found job job_is true same = subst (Good Rests) (same_Some _ o same) (splitting range r job found job_is)
-        by_numbers r found job job_is false same = subst (Good Rests) (same_Some _ o same) rests_good
+    -- where this is owed of ranges that are split, when it gives up
+    module _ (owed : LeavingOwed generation nodes target c y x s cell st at is) where
+      leave_split : (range : ℕ) (r : RangeState) (found : range_of st.ranges range ≡ Some r) (job : SplitJob) (was : split_of st.splits range ≡ Some job) (o : ServerOutcome) → gives_up st range (Some r) ≡ Some o → Good Rests o
+      leave_split range r found job was o e =
+          let same : (if has_numbers st.context then given_up st range (merge_with st.merges range) (give_up_all st.context r) else rests st) ≡ o = cc in
+          subst (Good Rests) same (go (has_numbers st.context))
+        where
+          go : (b : Bool) → Good Rests (if b then given_up st range (merge_with st.merges range) (give_up_all st.context r) else rests st)
+          go true =
+              subst (Good Rests) (sym (given_up_unmerged st whole range (give_up_all st.context r) ∙ ap (λ j. given_up_with st range j (give_up_all st.context r)) was))
+              (splits.give_up_good generation nodes target c y x s cell st at is range r found job was (owed range r found job was))
+          go false = rests_good
 
-        by_job : (r : RangeState) → range_of st.ranges range ≡ Some r → (job : Option SplitJob) → split_of st.splits range ≡ job → gives_up st range (Some r) ≡ Some o → Good Rests o
-        by_job r found None job_is same = give_up_held range r found job_is o same
-        by_job r found (Some job) job_is same = by_numbers r found job job_is (has_numbers st.context) same
-
-        go : (known : Option RangeState) → range_of st.ranges range ≡ known → gives_up st range known ≡ Some o → Good Rests o
-        go None found is_it = absurd cc
-        go (Some r) found is_it = by_job r found (split_of st.splits range) refl is_it
-
-    -- a range that is being split makes no checkpoint
-    checkpoint_good : (range : ℕ) (combine : Bool) → Good Rests (server_checkpoint st range combine)
-    checkpoint_good range combine = by_range (range_of st.ranges range) refl
-      where
-        busy : (job : SplitJob) → split_of st.splits range ≡ Some job → (fault : Option Refusal) → busy_if (has_jobs st range) fault ≡ None → ⊥
-        busy job job_is (Some why) free = let c : Some why ≡ None = free in cc
-        busy job job_is None free =
-            let c : Some refusals.Busy ≡ None = sym (ap (λ b. busy_if b None) (jobs_unmerged st whole range ∙ ap is_some job_is)) ∙ free in cc
-
-        by_job : (r : RangeState) → range_of st.ranges range ≡ Some r → busy_if (has_jobs st range) (checkpoint_fault r) ≡ None → (job : Option SplitJob) → split_of st.splits range ≡ job → Good Rests (checkpoints_in st range combine (Some r))
-        by_job r found may None job_is = checkpoint_held range r found job_is combine (not_refused (has_jobs st range) (checkpoint_fault r) may)
-        by_job r found may (Some job) job_is = absurd (busy job job_is (checkpoint_fault r) may)
-
-        by_fault : (r : RangeState) → range_of st.ranges range ≡ Some r → (fault : Option Refusal) → busy_if (has_jobs st range) (checkpoint_fault r) ≡ fault → Good Rests (if is_some fault then rests st else checkpoints_in st range combine (Some r))
-        by_fault r found None may = by_job r found may (split_of st.splits range) refl
-        by_fault r found (Some why) refused = rests_good
-
-        by_range : (known : Option RangeState) → range_of st.ranges range ≡ known → Good Rests (if is_some (checkpoint_refused (has_jobs st range) known) then rests st else checkpoints_in st range combine known)
-        by_range None found = rests_good
-        by_range (Some r) found = by_fault r found (busy_if (has_jobs st range) (checkpoint_fault r)) refl
+      give_up_rule_good : (range : ℕ) (o : ServerOutcome) → gives_up st range (range_of st.ranges range) ≡ Some o → Good Rests o
+      give_up_rule_good range o e = go (range_of st.ranges range) refl e
+        where
+          go : (known : Option RangeState) → range_of st.ranges range ≡ known → gives_up st range known ≡ Some o → Good Rests o
+          go None found is_it = absurd cc
+          go (Some r) found is_it = by_split range (λ unsplit. give_up_held range r found unsplit o is_it) (λ job was. leave_split range r found job was o is_it)
 
   -- ---- events
 
@@ -556,7 +605,7 @@ module _ (generation : ℕ → ℕ) (plenty : (g n : ℕ) → (i : ℕ) × (n �
 
   -- a server takes a packet
   module _ {base : Bases generation} (c : Cluster) (y : ServerRun) (x : Standing generation nodes target base c y) (whole : HaveNoMerges c.servers) (s : ℕ) (p : Packet) (there : Contains c.stream_layer.post p) (to : p.to ≡ Server s)
-      (splitting : (cell : ServerCell) (at : entry_at c.servers s ≡ Some cell) (st : ServerState) (is : cell.state ≡ Some st) → SplittingStands c y x s cell st at is (whole s cell at st is)) where
+      (owed : (cell : ServerCell) (st : ServerState) (at : entry_at c.servers s ≡ Some cell) (is : cell.state ≡ Some st) → SplitsOwed generation nodes target c y x s cell st at is) where
     -- a cluster after this, and the run where servers do this with streams
     abbrev Took : RangeEffect → ServersOutcome → ServersOutcome → Type 0
     Took effect o seen = IsLaid (with_outcome (with_effect s y effect) seen) →
@@ -570,7 +619,7 @@ module _ (generation : ℕ → ℕ) (plenty : (g n : ℕ) → (i : ℕ) × (n �
     state_takes cell at (Some st) is =
         let o : ServerOutcome = server_rule st p p.body in
         let run : ServerRun = with_outcome (with_effect s y (server_effect p (Some st))) (cell_after cell (Some st)) in
-        λ laid. rule_good c y x s cell st at is (whole s cell at st is) (splitting cell at st is) p there to (laid_behind run (with_effect s y (server_effect p (Some st))).notes o.notes refl laid)
+        λ laid. rule_good c y x s cell st at is (whole s cell at st is) (owed cell st at is) p there to (laid_behind run (with_effect s y (server_effect p (Some st))).notes o.notes refl laid)
 
     cell_takes_so : (o : Option ServerCell) → entry_at c.servers s ≡ o →
         Took (cell_effect p o) (at_server c.servers s (λ cell. cell_takes cell p cell.state) o) (at_server c.servers s (λ cell. cell_takes cell p cell.state) o)
@@ -593,20 +642,21 @@ module _ (generation : ℕ → ℕ) (plenty : (g n : ℕ) → (i : ℕ) × (n �
     abbrev pub picked_run : ServerCell → ServerState → ServerRun
     picked_run cell st = record y { servers = slice_set c.servers (s - 1) (picked_cell cell st) }
 
-    pub picked_stands : (cell : ServerCell) (at : entry_at c.servers s ≡ Some cell) (st : ServerState) (is : cell.state ≡ Some st) → Standing generation nodes target base (picked_cluster cell st) (picked_run cell st)
-    picked_stands cell at st is = picks_stand generation nodes target c s cell st at is (if has_numbers st.context then pick else st.context.pick) y x
+    pub picked_stands : (cell : ServerCell) (st : ServerState) → entry_at c.servers s ≡ Some cell → cell.state ≡ Some st → Standing generation nodes target base (picked_cluster cell st) (picked_run cell st)
+    picked_stands cell st at is = picks_stand generation nodes target c s cell st at is (if has_numbers st.context then pick else st.context.pick) y x
 
-    -- what is owed of ranges that are being split
-    abbrev pub SplittingGivesUpThen : Type 0
-    SplittingGivesUpThen =
-        (cell : ServerCell) (at : entry_at c.servers s ≡ Some cell) (st : ServerState) (is : cell.state ≡ Some st) →
-        SplittingGivesUp (picked_cluster cell st) (picked_run cell st) (picked_stands cell at st is) s (picked_cell cell st) (picked st pick) (entry_set c.servers s cell (picked_cell cell st) at) refl (whole s cell at st is)
+    pub picked_at : (cell : ServerCell) (st : ServerState) → entry_at c.servers s ≡ Some cell → entry_at (picked_cluster cell st).servers s ≡ Some (picked_cell cell st)
+    picked_at cell st at = entry_set c.servers s cell (picked_cell cell st) at
+
+    -- what is then owed of ranges that are being split
+    abbrev pub OwedPicked : Type 0
+    OwedPicked = (cell : ServerCell) (st : ServerState) (at : entry_at c.servers s ≡ Some cell) (is : cell.state ≡ Some st) →
+        LeavingOwed generation nodes target (picked_cluster cell st) (picked_run cell st) (picked_stands cell st at is) s (picked_cell cell st) (picked st pick) (picked_at cell st at) refl
 
     -- nothing, where none is
-    pub none_gives_up_then : ((cell : ServerCell) (at : entry_at c.servers s ≡ Some cell) (st : ServerState) (is : cell.state ≡ Some st) → st.splits ≡ []) → SplittingGivesUpThen
-    none_gives_up_then none cell at st is range r job found job_is =
-        none_gives_up (picked_cluster cell st) (picked_run cell st) (picked_stands cell at st is) s (picked_cell cell st) (picked st pick) (entry_set c.servers s cell (picked_cell cell st) at) refl (whole s cell at st is) (none cell at st is)
-        range r job found job_is
+    pub none_picked : ((cell : ServerCell) (st : ServerState) → entry_at c.servers s ≡ Some cell → cell.state ≡ Some st → st.splits ≡ []) → OwedPicked
+    none_picked none cell st at is =
+        none_leaving generation nodes target (picked_cluster cell st) (picked_run cell st) (picked_stands cell st at is) s (picked_cell cell st) (picked st pick) (picked_at cell st at) refl (none cell st at is)
 
     abbrev GaveUp : ServersOutcome → ServersOutcome → Type 0
     GaveUp o seen = IsLaid (with_outcome y seen) → Standing generation nodes target base (servers_perform c o) (with_outcome y seen)
@@ -617,7 +667,7 @@ module _ (generation : ℕ → ℕ) (plenty : (g n : ℕ) → (i : ℕ) × (n �
     abbrev state_after : ServerCell → Option ServerState → ServersOutcome
     state_after cell o = record { servers = slice_set c.servers (s - 1) (cell_gives_up cell range pick o).cell; packets = (cell_gives_up cell range pick o).packets; notes = (cell_gives_up cell range pick o).notes }
 
-    module _ (splitting : SplittingGivesUpThen) where
+    module _ (owed : OwedPicked) where
       gave_up : (cell : ServerCell) (st : ServerState) → entry_at c.servers s ≡ Some cell → cell.state ≡ Some st → (o : ServerOutcome) →
           gives_up (picked st pick) range (range_of st.ranges range) ≡ Some o → GaveUp (rule_after cell (Some o)) (rule_after cell (Some o))
       gave_up cell st at is o e =
@@ -625,8 +675,8 @@ module _ (generation : ℕ → ℕ) (plenty : (g n : ℕ) → (i : ℕ) × (n �
           let given : GaveUp
           (record { servers = slice_set servers (s - 1) (cell_performs cell o).cell; packets = o.packets; notes = o.notes })
           (record { servers = slice_set servers (s - 1) (cell_performs cell o).cell; packets = o.packets; notes = o.notes }) =
-          λ laid. give_up_rule_good (picked_cluster cell st) (picked_run cell st) (picked_stands cell at st is) s (picked_cell cell st) (picked st pick) (entry_set c.servers s cell (picked_cell cell st) at) refl (whole s cell at st is)
-          (splitting cell at st is) range o e
+          λ laid. give_up_rule_good (picked_cluster cell st) (picked_run cell st) (picked_stands cell st at is) s (picked_cell cell st) (picked st pick) (picked_at cell st at) refl (whole s cell at st is)
+          (owed cell st at is) range o e
           (laid_behind (with_outcome y (record { servers = slice_set servers (s - 1) (cell_performs cell o).cell; packets = o.packets; notes = o.notes })) y.notes o.notes refl laid) in
           subst (λ l. GaveUp (record { servers = l; packets = o.packets; notes = o.notes }) (record { servers = l; packets = o.packets; notes = o.notes }))
           (set_twice c.servers (s - 1) (picked_cell cell st) (cell_performs cell o).cell) given
@@ -676,3 +726,31 @@ module _ (generation : ℕ → ℕ) (plenty : (g n : ℕ) → (i : ℕ) × (n �
     pub checkpoints_stand : IsLaid (after_event y (Checkpoints s range combine)) →
         Standing generation nodes target base (servers_perform c (server_checkpoints c.servers s range combine)) (after_event y (Checkpoints s range combine))
     checkpoints_stand = subst (λ l. Made (server_checkpoints c.servers s range combine) (server_checkpoints l s range combine)) x.cells (cell_makes (entry_at c.servers s) refl)
+
+  -- a server is told to split a range
+  module _ {base : Bases generation} (c : Cluster) (y : ServerRun) (x : Standing generation nodes target base c y) (whole : HaveNoMerges c.servers) (s range : ℕ) (key : List ℕ) where
+    abbrev Begun : ServersOutcome → ServersOutcome → Type 0
+    Begun o seen = IsLaid (with_outcome y seen) → Standing generation nodes target base (servers_perform c o) (with_outcome y seen)
+
+    abbrev begun_after : ServerCell → Option ServerState → ServersOutcome
+    begun_after cell o =
+        record {
+          servers = slice_set c.servers (s - 1) (cell_splits cell range key o).cell;
+          packets = (cell_splits cell range key o).packets;
+          notes = (cell_splits cell range key o).notes;
+        }
+
+    state_splits : (cell : ServerCell) → entry_at c.servers s ≡ Some cell → (o : Option ServerState) → cell.state ≡ o → Begun (begun_after cell o) (begun_after cell o)
+    state_splits cell at None is = λ laid. stopped c y x s cell at
+    state_splits cell at (Some st) is =
+        let o : ServerOutcome = server_split st range key in
+        λ laid. split_good c y x s cell st at is (whole s cell at st is) range key (laid_behind (with_outcome y (begun_after cell (Some st))) y.notes o.notes refl laid)
+
+    cell_splits_so : (o : Option ServerCell) → entry_at c.servers s ≡ o →
+        Begun (at_server c.servers s (λ cell. cell_splits cell range key cell.state) o) (at_server c.servers s (λ cell. cell_splits cell range key cell.state) o)
+    cell_splits_so None at = λ laid. nobody_stands generation nodes target c y x
+    cell_splits_so (Some cell) at = state_splits cell at cell.state refl
+
+    pub splits_stand : IsLaid (after_event y (Splits s range key)) →
+        Standing generation nodes target base (servers_perform c (server_splits c.servers s range key)) (after_event y (Splits s range key))
+    splits_stand = subst (λ l. Begun (server_splits c.servers s range key) (server_splits l s range key)) x.cells (cell_splits_so (entry_at c.servers s) refl)

@@ -59,7 +59,7 @@ use Rattle.laws_clusters.proofs.RowRules.{AsksIn}
 use Rattle.laws_clusters.proofs.ClientJobs.{AsksBy}
 use Rattle.laws_clusters.proofs.RowPurposes.{rows_aside, own_asks, rows_request}
 pub use Rattle.laws_clusters.proofs.StepShapes.{IsNear, IsLaid, AreLaid, laid_behind, plain_laid}
-use Rattle.laws_clusters.proofs.StepShapes.{has_number, has_none, all_else, AreLeft, SplitsLeft, keep_asks, RowsWaited, SealWaited, CallWaited, StepWaits, below_next, other_range, other_server, with_one, one_here, one_other, whose}
+use Rattle.laws_clusters.proofs.StepShapes.{same_value, has_number, has_none, has_not, all_else, AreLeft, SplitsLeft, keep_asks, RowsWaited, SealWaited, CallWaited, StepWaits, below_next, other_range, other_server, with_one, one_here, one_other, whose}
 use Rattle.laws_clusters.proofs.RowSteps.{same_asks, IsNew, WaitedBefore, Steady, StepOfWaits, all_out}
 use Rattle.laws_clusters.proofs.SplitRequests.{SplitSends, IsRequestOf, sent_in, in_used, in_asks, sends_asks, sends_waits, one_answer, known_by, seal_waits, sends_rows, asks_rows, no_request}
 use Rattle.laws_clusters.proofs.ServerNotes.{server_notes}
@@ -68,7 +68,7 @@ use Rattle.laws_clusters.proofs.StreamOrders.{in_order}
 use Rattle.laws_clusters.proofs.RangeRules.{metadata_below, log_below, Acted}
 use Rattle.laws_clusters.proofs.RangeSteps.{m_after, l_after, machines_after, m_side_is, l_side_is, others_steady, goes_onward, goes_on}
 use Rattle.laws_clusters.proofs.StreamMachines.{Further, all_told}
-use Rattle.laws_clusters.proofs.Elsewhere.{RowsRequest, AllBuildAside, AreRowsElse, all_elsewhere, all_alone}
+use Rattle.laws_clusters.proofs.Elsewhere.{RowsRequest, AreRowsElse, all_elsewhere, all_alone}
 use Rattle.laws_stream_machine.proofs.BuiltStreams.{IsAbsent}
 use Rattle.laws_stream_machine.proofs.LowerLayer.{below_alone}
 use Rattle.laws_clusters.proofs.RequestNumbers.{PastAt, IsPast, used_number, asked_used, AreNumbersPast, AllPast, past_on, past_step, new_past, all_past_adds, added_some, added_none}
@@ -93,9 +93,8 @@ module _ (generation : ℕ → ℕ) (nodes target : ℕ) where
         (l_after generation nodes target x.moves range (x.machines range) i st.context (silent t) (FollowsBothIf generation range w i t.job) k.rule.step.goes) ps)
         -- where it is dropped, so is its split, and nothing is asked of the map and built
         (ends : t.range ≡ None → t.job ≡ None) (gone : t.range ≡ None → (p : Packet) → Contains ps p → (q : ReqNo) → used_number p.body ≡ Some q → asked_number p.body ≡ Some q)
-        -- what is built leaves the streams of other ranges, and is of a split
+        -- what is built is of a split
         (lists : (server : ℕ) (to : ActorId) (list : List Modify) (q : ReqNo) → Contains ps (packet (Server server) to (bodies.Stream (streams.MultiModify list q))) → (m : Modify) → Contains list m → IsOfSplit c.stream_layer list)
-        (builds : (j : ℕ) → (j ≡ range → ⊥) → AllBuildAside (metadata_of j) w ps × AllBuildAside (log_of j) w ps)
         (senders : (p : Packet) → Contains ps p → p.from ≡ Map → ⊥)
         (after : ServerState) (context_is : after.context ≡ record st.context { count = t.count }) (shape : AreLeft st.ranges after.ranges range t.range) (split_shape : SplitsLeft st.splits after.splits range t.job) where
       abbrev z : Machines generation
@@ -291,8 +290,8 @@ module _ (generation : ℕ → ℕ) (nodes target : ℕ) where
 
           by_sent : (next : RangeState) → t.range ≡ Some next → (job : Option SplitJob) → t.job ≡ job → IsRequestOf next job p.body → Cases p q
           by_sent next has None none asks = by_rows next has asks
-          by_sent next has (Some later) is_later (inl asks) = by_rows next has asks
-          by_sent next has (Some later) is_later (inr sends) = by_split next has later is_later sends (sends_waits next later q p.body sends number)
+          by_sent next has (Some k) is_later (inl asks) = by_rows next has asks
+          by_sent next has (Some k) is_later (inr sends) = by_split next has k is_later sends (sends_waits next k q p.body sends number)
 
           by_none : t.range ≡ None → IsForRows range t.range q p.body ⊎ IsForSplit w range t.job q p.body → Cases p q
           by_none none (inl rows) = absurd (subst (λ a. IsForRows range a q p.body) none rows)
@@ -353,17 +352,11 @@ module _ (generation : ℕ → ℕ) (nodes target : ℕ) where
       abbrev Before : Waiter → ReqNo → Type 0
       Before by q = WaitedBefore generation c.servers next_servers x.machines next_machines c.stream_layer.post ps s range st.context t.count x.out by q
 
-      same_next : (r next : RangeState) → t.range ≡ Some r → t.range ≡ Some next → next ≡ r
-      same_next r next one two = let both : Some next ≡ Some r = sym two ∙ one in cc
-
-      same_later : (job later : SplitJob) → t.job ≡ Some job → t.job ≡ Some later → later ≡ job
-      same_later job later one two = let both : Some later ≡ Some job = sym two ∙ one in cc
-
       rows_before : (next : RangeState) → t.range ≡ Some next → (q : ReqNo) → awaits next.rows.job q ≡ true → RowsWaited st range next q → Before OfRows q
       rows_before next has q waits_so (r, found, was) = record {
         waited = (r, held_here r found, ap (λ j. awaits j q) (sym was.job) ∙ waits_so);
         asks = λ body asks k h.
-            (let same : next ≡ k = same_next k next (own_range k h) has in
+            (let same : next ≡ k = same_value t.range k next (own_range k h) has in
             subst (λ (u : RangeState). AsksBy u.rows body) same (same_asks r.rows next.rows was.job was.group was.stream body (asks r (held_here r found))));
       }
 
@@ -374,7 +367,7 @@ module _ (generation : ℕ → ℕ) (nodes target : ℕ) where
       call_before later has q (job, found, waits_so, keeps) = record {
         waited = (job, split_here job found, waits_so);
         asks = λ body asks k h.
-            (let same : later ≡ k = same_later k later (own_split k h) has in
+            (let same : later ≡ k = same_value t.job k later (own_split k h) has in
             subst (λ (u : SplitJob). IsSplitAsk u body) same (keep_asks job later keeps body (asks job (split_here job found))));
       }
 
@@ -397,7 +390,7 @@ module _ (generation : ℕ → ℕ) (nodes target : ℕ) where
           by_range None none = inl (λ q (r, h, waits_so). absurd (let z : None ≡ Some r = sym none ∙ own_range r h in cc))
           by_range (Some next) has = elim (waits next has).steady [
             | inl rows ↦ inl (λ q (r, h, waits_so).
-                (let same : next ≡ r = same_next r next (own_range r h) has in
+                (let same : next ≡ r = same_value t.range r next (own_range r h) has in
                 let waits_next : awaits next.rows.job q ≡ true = subst (λ (u : RangeState). awaits u.rows.job q ≡ true) (sym same) waits_so in
                 (rows_before next has q waits_next (rows q waits_next)).waited))
             | inr split ↦ inr (
@@ -408,7 +401,7 @@ module _ (generation : ℕ → ℕ) (nodes target : ℕ) where
 
       one_waits : (q : ReqNo) → Waits next_servers s range OfSeal q → Waits next_servers s range OfCall q → ⊥
       one_waits q (job, h, seal) (later, g, call) =
-          let same : later ≡ job = same_later job later (own_split job h) (own_split later g) in one_answer job.phase q seal (subst (λ (u : SplitJob). waits_call u.phase q ≡ true) same call)
+          let same : later ≡ job = same_value t.job job later (own_split job h) (own_split later g) in one_answer job.phase q seal (subst (λ (u : SplitJob). waits_call u.phase q ≡ true) same call)
 
       -- what it waits for with row data has no purpose in the range's streams
       waits_apart : (by : Waiter) → IsOfExtents by → (q : ReqNo) → Waits next_servers s range by q → HasNone generation new q
@@ -418,10 +411,6 @@ module _ (generation : ℕ → ℕ) (nodes target : ℕ) where
           seal_aside generation range w i m_then l_then there.0 job q waits_so (subst (λ j. FollowsBoth generation range w i j there.0 m_then l_then) (own_split job h) (next_follows there.0 there.1))
       waits_apart OfCall extents q waits_so = absurd extents
 
-      has_not : (q : ReqNo) → HasNumber generation new q → HasNone generation new q → ⊥
-      has_not q (p, inl has) none = let z : None ≡ Some p = sym none.0 ∙ has in cc
-      has_not q (p, inr has) none = let z : None ≡ Some p = sym none.1 ∙ has in cc
-
       own_state : (job : SplitJob) → t.job ≡ Some job → SplitAt next_servers s range job
       own_state job has = record { cell = next_cell; state = after; there = entry_set c.servers s cell next_cell at; up = refl; found = split_shape.here ∙ has }
 
@@ -429,10 +418,10 @@ module _ (generation : ℕ → ℕ) (nodes target : ℕ) where
       Asked by p q = AskedBy next_servers s range by p.body ⊎ ((other : Waiter) × (other ≡ by → ⊥) × Waits next_servers s range other q)
 
       row_asked : (p : Packet) (q : ReqNo) → used_number p.body ≡ Some q → Waits next_servers s range OfRows q → Cases p q → Asked OfRows p q
-      row_asked p q number own (inl has) = absurd (has_not q has.0 (waits_apart OfRows tt q own))
+      row_asked p q number own (inl has) = absurd (has_not generation new q has.0 (waits_apart OfRows tt q own))
       row_asked p q number own (inr (inl (next, has, waits_so, for, asks, aside))) =
           inl (λ r h.
-          (let same : next ≡ r = same_next r next (own_range r h) has in
+          (let same : next ≡ r = same_value t.range r next (own_range r h) has in
           own_asks generation range w i m_then l_then r t.job (next_follows r (own_range r h)) q aside p.body (subst (λ u. AsksIn u p.body) same asks) (in_used next p.body q asks number)))
       row_asked p q number own (inr (inr (inl (next, later, has, is_later, waits_so, sends, aside)))) = inr (OfSeal, λ e. cc, (later, own_state later is_later, waits_so))
       row_asked p q number own (inr (inr (inr (next, later, has, is_later, waits_so, sends)))) = inr (OfCall, λ e. cc, (later, own_state later is_later, waits_so))
@@ -498,12 +487,8 @@ module _ (generation : ℕ → ℕ) (nodes target : ℕ) where
       rows_else : (j : ℕ) (sent : List Sent) → ((q : ReqNo) → HasNone generation (x.machines j) q → purpose_of sent q ≡ None) → AreRowsElse generation range w i m_then l_then sent ps
       rows_else j sent side = all_else generation range i w m_then l_then sent ps (λ p there q number one two. by_case p q number one two (known_now p there q (asked_used p.body q number)))
         where
-          purposes : (q : ReqNo) → HasNumber generation new q → purpose_of m_then.sent q ≡ None → purpose_of l_then.sent q ≡ None → ⊥
-          purposes q (p, inl has) one two = let z : None ≡ Some p = sym one ∙ has in cc
-          purposes q (p, inr has) one two = let z : None ≡ Some p = sym two ∙ has in cc
-
           by_case : (p : Packet) (q : ReqNo) → asked_number p.body ≡ Some q → purpose_of m_then.sent q ≡ None → purpose_of l_then.sent q ≡ None → Cases p q → RowsRequest w range p.body × (purpose_of sent q ≡ None)
-          by_case p q number one two (inl has) = absurd (purposes q has.0 one two)
+          by_case p q number one two (inl has) = absurd (has_not generation new q has.0 (one, two))
           by_case p q number one two (inr (inl (next, has, waits_so, for, asks, aside))) =
               let follows = next_follows next has in (
                 rows_request range w m_then.sent l_then.sent next.rows (both_row_data generation range w i m_then l_then next t.job follows) p.body for (own_asks generation range w i m_then l_then next t.job follows q aside p.body asks number),
@@ -561,7 +546,7 @@ module _ (generation : ℕ → ℕ) (nodes target : ℕ) where
                 (all_elsewhere generation range w i m_then l_then (metadata_of j) apart (after_all Group generation (x.machines j).m) (x.machines j).m_sent
                 (metadata_alone (metadata_of range) (apart_name (metadata_of j) (metadata_of range) apart)) (metadata_alone (log_of range) (apart_name (metadata_of j) (log_of range) apart))
                 (metadata_alone (rows_of range) (apart_name (metadata_of j) (rows_of range) apart))
-                (λ q known. (none_elsewhere j apart q (has_number generation new q known)).0) nodes target t.range t.job ps asked (rows_else j (x.machines j).m_sent (λ q none. none.0)) (builds j apart).0) stream.below;
+                (λ q known. (none_elsewhere j apart q (has_number generation new q known)).0) nodes target t.range t.job ps asked (rows_else j (x.machines j).m_sent (λ q none. none.0)) stream.there) stream.below;
           })
 
           aside_log : IsBeside generation nodes target x.moves (log_of j) (x.machines j).l (x.machines j).l_sent → IsBeside generation nodes target later (log_of j) (x.machines j).l (x.machines j).l_sent
@@ -573,7 +558,7 @@ module _ (generation : ℕ → ℕ) (nodes target : ℕ) where
                 (all_elsewhere generation range w i m_then l_then (log_of j) apart (after_all Group generation (x.machines j).l) (x.machines j).l_sent
                 (log_alone (metadata_of range) (apart_name (log_of j) (metadata_of range) apart)) (log_alone (log_of range) (apart_name (log_of j) (log_of range) apart))
                 (log_alone (rows_of range) (apart_name (log_of j) (rows_of range) apart))
-                (λ q known. (none_elsewhere j apart q (has_number generation new q known)).1) nodes target t.range t.job ps asked (rows_else j (x.machines j).l_sent (λ q none. none.1)) (builds j apart).1) stream.below;
+                (λ q known. (none_elsewhere j apart q (has_number generation new q known)).1) nodes target t.range t.job ps asked (rows_else j (x.machines j).l_sent (λ q none. none.1)) stream.there) stream.below;
           })
 
       has_later : HasStreams (here generation nodes target later) range
@@ -698,9 +683,6 @@ module _ (generation : ℕ → ℕ) (nodes target : ℕ) where
             (own_if generation nodes target x.moves range z i st.context o t.job goes later same_catalog all_notes v.history sees.record_append sees.append k.read r (shape.here r found)));
       }
 
-      after_there : entry_at next_servers s ≡ Some next_cell
-      after_there = entry_set c.servers s cell next_cell at
-
       split_held_after : (j : ℕ) (job : SplitJob) → split_of after.splits j ≡ Some job → (r : RangeState) × (range_of after.ranges j ≡ Some r)
       split_held_after j job found = elim (cases_eq j range) [
         | inl same ↦
@@ -717,7 +699,7 @@ module _ (generation : ℕ → ℕ) (nodes target : ℕ) where
         held = λ j r.
             by_range (λ n u. range_of after.ranges n ≡ Some r → IsHeld generation nodes target later n u (next_run.history s n) (inc s n) (split_of after.splits n) r) (own_held r)
             (λ n apart found.
-            aside_held s n (split_of after.splits n) r apart (rows_none s n next_cell after after_there refl r found)
+            aside_held s n (split_of after.splits n) r apart (rows_none s n next_cell after (entry_set c.servers s cell next_cell at) refl r found)
             (subst (λ job. IsHeld generation nodes target x.moves n (x.machines n) (y.history s n) (x.incarnation s n) job r) (sym (split_shape.others n apart)) (run_of.held n r (sym (shape.others n apart) ∙ found)))) j;
         splits_ascending = split_shape.ascending;
         split_held = split_held_after;

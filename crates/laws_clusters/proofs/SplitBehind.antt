@@ -1,8 +1,5 @@
 -- A cluster stands on where a range that is being split takes a step and its split goes on behind it.
-use Rattle.std.proofs.Common.{◌≡◌, ℕ, ◌-◌, List, [], ◌++◌, Option, Some, None, slice_set, refl, sym, ap, ◌∙◌, subst}
-use Rattle.wire.specs.declared.body.Body.TheVariants as bodies
-use Rattle.wire.specs.declared.body.StreamBody.TheVariants as streams
-use Rattle.wire.specs.declared.streams.StreamName.{StreamName}
+use Rattle.std.proofs.Common.{◌≡◌, ℕ, ◌-◌, List, [], ◌++◌, Some, None, slice_set, refl, sym, ap, ◌∙◌, subst}
 use Rattle.model_streams.specs.Maps.{entry_at}
 use Rattle.model_streams.specs.StreamSystem.{StreamSystem}
 use Rattle.client.specs.Client.{ClientState}
@@ -13,19 +10,17 @@ use Rattle.model_partition.specs.Cluster.{Cluster}
 use Rattle.model_partition.specs.Range.{RangeState, RangeOutcome}
 use Rattle.model_partition.specs.Server.{ServerState, range_of, set_range, split_of, set_split}
 use Rattle.model_partition.specs.Servers.{ServerCell, with_told}
-use Rattle.model_partition.specs.Splits.{SplitStep, open_last, all_streams, follows, keys_again, gives_up}
+use Rattle.model_partition.specs.Splits.{SplitStep, open_last, follows, keys_again, gives_up}
 use Rattle.model_histories.specs.ServerRun.{ServerRun, after_actions, with_outcome}
 use Rattle.model_histories.specs.StreamActions.{StreamAction, follow_actions}
 use Rattle.laws_loads.proofs.Entries.{entry_set, set_twice}
-use Rattle.laws_ranges.specs.Serves.{metadata_of, log_of}
 use Rattle.laws_ranges.specs.SplitJobs.{LeavesKeys, SplitSees}
 use Rattle.laws_ranges.proofs.SplitReplies.{follows_split, gives_up_split}
 use Rattle.laws_ranges.proofs.SplitsKept.{both_under}
 use Rattle.laws_servers.specs.Sending.{AllFromServers}
 use Rattle.laws_servers.proofs.SplitSteps.{follows_sends}
 use Rattle.laws_server_runs.specs.RunInvariant.{view_at}
-use Rattle.laws_clusters.proofs.Elsewhere.{BuildsAside}
-use Rattle.laws_clusters.proofs.SplitRequests.{BuildLeaves, BuildsCounted}
+use Rattle.laws_clusters.proofs.SplitRequests.{BuildsCounted}
 use Rattle.laws_clusters.proofs.Invariant.{m_side, l_side, Standing, Bases}
 use Rattle.laws_clusters.proofs.RangeRules.{both}
 use Rattle.laws_clusters.proofs.RowRules.{RowsIf}
@@ -37,10 +32,6 @@ use Rattle.laws_clusters.proofs.SplitPackets as one
 use Rattle.laws_clusters.proofs.SplitPackets.{steps_joined, told_joined}
 use Rattle.laws_clusters.proofs.SplitRules.{beside_step, split_acted, follow_acted}
 use Rattle.laws_clusters.proofs.SplitStands as split
-
--- What a split is to build leaves the streams of other ranges: each of the eight is there already, or is no stream that is followed yet; and is of ranges that are counted.
-abbrev pub BuildsApart : StreamSystem → ℕ → Option SplitJob → Type 0
-BuildsApart w range job = ((j : ℕ) → (j ≡ range → ⊥) → BuildLeaves (metadata_of j) w job × BuildLeaves (log_of j) w job) × BuildsCounted job
 
 module _ (generation : ℕ → ℕ) (nodes target : ℕ) {base : Bases generation} (c : Cluster) (y : ServerRun) (x : Standing generation nodes target base c y) (s : ℕ) (cell : ServerCell) (st : ServerState) (at : entry_at c.servers s ≡ Some cell) (is : cell.state ≡ Some st)
     (range : ℕ) (r : RangeState) (found : range_of st.ranges range ≡ Some r) (job : SplitJob) (was : split_of st.splits range ≡ Some job) where
@@ -76,7 +67,7 @@ module _ (generation : ℕ → ℕ) (nodes target : ℕ) {base : Bases generatio
 
     -- what is so of a step of the split behind this
     module _ (t : SplitStep) (later : List StreamAction) (then : split.Does generation nodes target c1 y1 x1 s cell1 st1 at1 refl range next found1 job was t later) (sends : AllFromServers t.packets)
-        (leaves : Leaves st1.context next job t) (keys : LeavesUnkeyed st1.context next job t) (builds_later : BuildsApart c.stream_layer range t.job) where
+        (leaves : Leaves st1.context next job t) (keys : LeavesUnkeyed st1.context next job t) (builds_later : BuildsCounted t.job) where
       abbrev pub state : ServerState
       state = record st { context = record st.context { count = t.count }; ranges = set_range st.ranges range t.range; splits = set_split st.splits range t.job }
 
@@ -147,15 +138,8 @@ module _ (generation : ℕ → ℕ) (nodes target : ℕ) {base : Bases generatio
           subst (λ z. Standing generation nodes target base z last_run) cluster_is
           (subst (λ z. Standing generation nodes target base (cluster_so (with_told (with_told c.stream_layer o.packets []) t.packets o.notes) two_servers) z) run_is
           (split.split_stands generation nodes target c1 y1 x1 s cell1 st1 at1 refl range next found1 job was t o.notes later then sends leaves keys
-          builds_there (set_range st.ranges range t.range) shape (set_split st.splits range t.job)
+          builds_later (set_range st.ranges range t.range) shape (set_split st.splits range t.job)
           (one.splits_of generation nodes target c y x s cell st at is range r found (Some job) was t.job) (subst (λ z. AreLaid z o.notes) (sym run_is) laid)))
-        where
-          one_stream : (name : StreamName) → BuildLeaves name c.stream_layer t.job → BuildLeaves name (split.w generation nodes target c1 y1 x1 s cell1 st1 at1 refl range next found1 job was) t.job
-          one_stream name leaves_so = λ other has q at_build.
-              subst (λ (w : StreamSystem). BuildsAside name w (bodies.Stream (streams.MultiModify (all_streams other) q))) (sym x1.leads) (leaves_so other has q at_build)
-
-          builds_there : split.BuildsLeave generation nodes target c1 y1 x1 s cell1 st1 at1 refl range next found1 job was t.job
-          builds_there = ((λ j apart. (one_stream (metadata_of j) (builds_later.0 j apart).0, one_stream (log_of j) (builds_later.0 j apart).1)), builds_later.1)
 
     -- ---- what follows it
 
@@ -177,7 +161,7 @@ module _ (generation : ℕ → ℕ) (nodes target : ℕ) {base : Bases generatio
           (leaves_none st1.context next job (follows st1.context next job) (follows_leaves st1.context next job))
 
       -- a rule of the range, and what its split then does
-      pub follow_stands : (builds_later : BuildsApart c.stream_layer range (follows st1.context next job).job) →
+      pub follow_stands : (builds_later : BuildsCounted (follows st1.context next job).job) →
           AreLaid (last_run (follows st1.context next job) (follow_actions st1.context next job) followed (follows_sends st1.context next job) (follows_leaves st1.context next job) (follows_keys st1.context next job) builds_later) o.notes →
           Standing generation nodes target base (last_cluster (follows st1.context next job) (follow_actions st1.context next job) followed (follows_sends st1.context next job) (follows_leaves st1.context next job) (follows_keys st1.context next job) builds_later)
           (last_run (follows st1.context next job) (follow_actions st1.context next job) followed (follows_sends st1.context next job) (follows_leaves st1.context next job) (follows_keys st1.context next job) builds_later)
@@ -192,7 +176,7 @@ module _ (generation : ℕ → ℕ) (nodes target : ℕ) {base : Bases generatio
     -- what is so of a step of the split that adds nothing to the streams of the range
     abbrev pub GoesOn : SplitStep → Type 0
     GoesOn t =
-        AllFromServers t.packets → Leaves st1.context next job t → BuildsApart c.stream_layer range t.job →
+        AllFromServers t.packets → Leaves st1.context next job t → BuildsCounted t.job →
         AreLaid (with_outcome (after_actions s range r.load.generation y actions) (record { servers = slice_set c.servers (s - 1) (record cell { state = Some (after_split t) }); packets = o.packets ++ t.packets; notes = o.notes })) o.notes →
         Standing generation nodes target base (record c { stream_layer = with_told c.stream_layer (o.packets ++ t.packets) o.notes; servers = slice_set c.servers (s - 1) (record cell { state = Some (after_split t) }) })
         (with_outcome (after_actions s range r.load.generation y actions) (record { servers = slice_set c.servers (s - 1) (record cell { state = Some (after_split t) }); packets = o.packets ++ t.packets; notes = o.notes }))

@@ -22,7 +22,7 @@ use Rattle.model_partition.specs.Splits.{SplitStep}
 use Rattle.model_histories.specs.ServerRun.{ServerRun, after_action, after_actions, with_outcome}
 use Rattle.model_histories.specs.StreamActions.{StreamAction, Reads, Forms, Stands, Shows, Finds, Stores}
 use Rattle.laws_stream_machine.specs.Refinement.{asked_number}
-use Rattle.laws_ranges.specs.Serves.{Side, metadata_of, log_of, IsPastRows, IsSentBy}
+use Rattle.laws_ranges.specs.Serves.{Side, IsPastRows, IsSentBy}
 use Rattle.laws_ranges.specs.SplitJobs.{FollowsBoth, FollowsBothIf, silent}
 use Rattle.laws_ranges.proofs.SplitsKept.{both_under, both_row_data}
 use Rattle.laws_servers.specs.Sending.{AllFromServers}
@@ -31,7 +31,6 @@ use Rattle.laws_server_runs.specs.Places.{AreAscending}
 use Rattle.laws_server_runs.specs.RunInvariant.{view_at}
 use Rattle.laws_server_runs.proofs.RangeLists.{inserted_here, inserted_other, ascending_inserted, dropped_here, dropped_other, left_here, left_other, ascending_left}
 use Rattle.laws_clusters.proofs.ClientJobs.{AsksBy}
-use Rattle.laws_clusters.proofs.Elsewhere.{AllBuildAside}
 use Rattle.laws_clusters.proofs.Invariant.{HeldAt, OfRows, Out, here, m_side, l_side, Holds, IsHeld, Runs, Standing, Bases}
 use Rattle.laws_clusters.proofs.RangeActions.{SeesBytes}
 use Rattle.laws_clusters.proofs.MapWords.{IsFounded}
@@ -133,10 +132,6 @@ module _ (generation : ℕ → ℕ) (nodes target : ℕ) {base : Bases generatio
   same_run : steps.IsNear s range y y
   same_run = record { history = λ t j apart. refl; story = λ name. refl; shown = λ j. refl; answered = λ j. refl; notes = refl }
 
-  -- what is to be built leaves the streams of other ranges, and is of a split
-  abbrev pub AreAside : List Packet → Type 0
-  AreAside ps = ((j : ℕ) → (j ≡ range → ⊥) → AllBuildAside (metadata_of j) w ps × AllBuildAside (log_of j) w ps) × AllAskOfSplit c.stream_layer ps
-
   -- the server after a step, with these ranges and splits
   abbrev pub state_after : SplitStep → List (ℕ × RangeState) → List (ℕ × SplitJob) → ServerState
   state_after t ranges splits = record st { context = record st.context { count = t.count }; ranges = ranges; splits = splits }
@@ -163,13 +158,13 @@ module _ (generation : ℕ → ℕ) (nodes target : ℕ) {base : Bases generatio
 
   -- a cluster stands after a step, where what it shows is laid
   pub step_stands : (t : SplitStep) (notes : List TableNote) (actions : List StreamAction) → Does t actions → AllFromServers t.packets → StepWaits st range t t.packets → (t.range ≡ None → t.job ≡ None) →
-      (t.range ≡ None → (p : Packet) → Contains t.packets p → (q : ReqNo) → used_number p.body ≡ Some q → asked_number p.body ≡ Some q) → AreAside t.packets →
+      (t.range ≡ None → (p : Packet) → Contains t.packets p → (q : ReqNo) → used_number p.body ≡ Some q → asked_number p.body ≡ Some q) → AllAskOfSplit c.stream_layer t.packets →
       (ranges : List (ℕ × RangeState)) → AreLeft st.ranges ranges range t.range → (splits : List (ℕ × SplitJob)) → SplitsLeft st.splits splits range t.job →
       AreLaid (run_after t notes actions ranges splits) notes → Standing generation nodes target base (cluster_after t notes ranges splits) (run_after t notes actions ranges splits)
   step_stands t notes actions acted senders waits ends gone builds ranges shape splits split_shape laid =
       steps.stepped generation nodes target c y x s cell st at is range founded i alone y same_run holds.record_append holds.append t notes actions acted t.packets (may_send_all t.packets senders) waits acted.rule.step.asked ends gone
-      (λ server to list q now m among. one_of_split c.stream_layer t.packets builds.1 (packet (Server server) to (bodies.Stream (streams.MultiModify list q))) now)
-      builds.0 (none_from_map t.packets senders) (state_after t ranges splits) refl shape split_shape laid
+      (λ server to list q now m among. one_of_split c.stream_layer t.packets builds (packet (Server server) to (bodies.Stream (streams.MultiModify list q))) now)
+      (none_from_map t.packets senders) (state_after t ranges splits) refl shape split_shape laid
 
   -- the range is left so
   pub shape_of : (o : Option RangeState) → AreLeft st.ranges (set_range st.ranges range o) range o

@@ -9,7 +9,6 @@ use Rattle.wire.specs.declared.body.StreamBody.TheVariants as streams
 use Rattle.wire.specs.declared.packet.Packet.{Packet}
 use Rattle.wire.specs.declared.streams.StreamKind.{StreamKind}
 use Rattle.wire.specs.declared.streams.StreamKind.TheVariants as kinds
-use Rattle.wire.specs.declared.streams.StreamName.{StreamName}
 use Rattle.client.specs.Client.{awaits}
 use Rattle.client.specs.Requests.{is_same}
 use Rattle.model_streams.specs.StreamSystem.{StreamSystem}
@@ -19,14 +18,14 @@ use Rattle.model_partition.specs.declared.split_job.SplitPhase.TheVariants as ph
 use Rattle.model_partition.specs.Range.{RangeState}
 use Rattle.model_partition.specs.Splits.{extents_of, open_last, all_streams}
 use Rattle.laws_stream_machine.specs.Refinement.{Purpose, purpose_of, asked_number}
-use Rattle.laws_ranges.specs.Serves.{Side, known, LastIs, IsAside, IsOfRows, IsForRows, BuildsNone}
-use Rattle.laws_ranges.specs.SplitJobs.{waits_seal, waits_call, PhaseStands, FollowsBoth, IsForSplit, IsBuildOf, IsKnownBy, AskedOfSplit}
+use Rattle.laws_ranges.specs.Serves.{Side, known, LastIs, IsAside, IsOfRows, IsForRows}
+use Rattle.laws_ranges.specs.SplitJobs.{waits_seal, waits_call, PhaseStands, FollowsBoth, IsForSplit, IsKnownBy, AskedOfSplit}
 use Rattle.laws_ranges.proofs.MachineSteps.{request_same}
 use Rattle.laws_ranges.proofs.RowData.{got}
 use Rattle.laws_ranges.proofs.SplitSeals.{open_last_is}
 use Rattle.laws_ranges.proofs.SplitsKept.{both_row_data}
 use Rattle.laws_clusters.proofs.ClientJobs.{AsksBy}
-use Rattle.laws_clusters.proofs.Elsewhere.{RowsRequest, BuildsAside, AllBuildAside, builds_none_aside}
+use Rattle.laws_clusters.proofs.Elsewhere.{RowsRequest}
 use Rattle.laws_clusters.proofs.Invariant.{IsSplitAsk}
 use Rattle.laws_clusters.proofs.RangeStreams.{IsOfSplit}
 use Rattle.laws_clusters.proofs.RequestNumbers.{used_number}
@@ -203,56 +202,6 @@ pub split_joined : (generation : ℕ → ℕ) (range i : ℕ) (w : StreamSystem)
     AskedOfSplit generation range w i after job n k ys → AskedOfSplit generation range w i after job n k (xs ++ ys)
 split_joined generation range i w after job n k [] ys a b = b
 split_joined generation range i w after job n k (x ∷ xs) ys a b = (a.0, split_joined generation range i w after job n k xs ys a.1 b)
-
--- ---- what is built leaves other streams
-
-module _ (generation : ℕ → ℕ) (range i : ℕ) (w : StreamSystem) (after : Option RangeState) (job : Option SplitJob) (n k : Side) (name : StreamName) where
-  -- nothing is built but the two ranges of the split
-  pub builds_aside : ((body : Body) → IsBuildOf job body → BuildsAside name w body) → (ps : List Packet) → AskedOfSplit generation range w i after job n k ps → AllBuildAside name w ps
-  builds_aside build [] asked = tt
-  builds_aside build (p ∷ ps) asked = (by_body asked.0.3, builds_aside build ps asked.1)
-    where
-      by_body : BuildsNone p.body ⊎ IsBuildOf job p.body → BuildsAside name w p.body
-      by_body (inl none) = builds_none_aside name w p.body none
-      by_body (inr of) = build p.body of
-
--- clients ask for none
-pub clients_aside : (name : StreamName) (w : StreamSystem) (r : RangeState) (ps : List Packet) → AllIn r ps → AllBuildAside name w ps
-clients_aside name w r [] all = tt
-clients_aside name w r (p ∷ ps) all = (by_body p.body all.0, clients_aside name w r ps all.1)
-  where
-    by_body : (body : Body) → AsksIn r body → BuildsAside name w body
-    by_body (bodies.Stream (streams.MultiModify list q)) (inl a) = absurd a
-    by_body (bodies.Stream (streams.MultiModify list q)) (inr (inl a)) = absurd a
-    by_body (bodies.Stream (streams.MultiModify list q)) (inr (inr a)) = absurd a
-    by_body (bodies.Stream body) asks = tt
-    by_body body asks = tt
-
--- what a split that waits for its streams is to build leaves a stream, or that is there
-abbrev pub BuildLeaves : StreamName → StreamSystem → Option SplitJob → Type 0
-BuildLeaves name w job = (later : SplitJob) → job ≡ Some later → (q : ReqNo) → later.phase ≡ phases.Build q → BuildsAside name w (bodies.Stream (streams.MultiModify (all_streams later) q))
-
--- and a range that may be split asks for that alone
-pub sent_aside : (name : StreamName) (w : StreamSystem) (r : RangeState) (job : Option SplitJob) → BuildLeaves name w job → (ps : List Packet) → AllSent r job ps → AllBuildAside name w ps
-sent_aside name w r job build [] all = tt
-sent_aside name w r job build (p ∷ ps) all = (by_job job build p.body all.0, sent_aside name w r job build ps all.1)
-  where
-    client : (body : Body) → AsksIn r body → BuildsAside name w body
-    client (bodies.Stream (streams.MultiModify list q)) (inl a) = absurd a
-    client (bodies.Stream (streams.MultiModify list q)) (inr (inl a)) = absurd a
-    client (bodies.Stream (streams.MultiModify list q)) (inr (inr a)) = absurd a
-    client (bodies.Stream body) asks = tt
-    client body asks = tt
-
-    of_split : (later : SplitJob) → ((q : ReqNo) → later.phase ≡ phases.Build q → BuildsAside name w (bodies.Stream (streams.MultiModify (all_streams later) q))) → (body : Body) → SplitSends r later body → BuildsAside name w body
-    of_split later leaves (bodies.Stream (streams.MultiModify list q)) sends = subst (λ l. BuildsAside name w (bodies.Stream (streams.MultiModify l q))) (sym sends.1) (leaves q sends.0)
-    of_split later leaves (bodies.Stream body) sends = tt
-    of_split later leaves body sends = tt
-
-    by_job : (o : Option SplitJob) → BuildLeaves name w o → (body : Body) → IsRequestOf r o body → BuildsAside name w body
-    by_job None leaves body asks = client body asks
-    by_job (Some later) leaves body (inl asks) = client body asks
-    by_job (Some later) leaves body (inr sends) = of_split later (leaves later refl) body sends
 
 -- ---- what is asked to be built is of a split
 

@@ -7,9 +7,7 @@ use Rattle.wire.specs.declared.actor.ReqNo.{ReqNo}
 use Rattle.wire.specs.declared.body.Body.{Body}
 use Rattle.wire.specs.declared.body.Body.TheVariants as bodies
 use Rattle.wire.specs.declared.body.MapBody.TheVariants as maps
-use Rattle.wire.specs.declared.body.StreamBody.TheVariants as streams
 use Rattle.wire.specs.declared.packet.Packet.{Packet}
-use Rattle.wire.specs.declared.streams.StreamName.{StreamName}
 use Rattle.wire.specs.declared.transaction.Change.{Change}
 use Rattle.model_streams.specs.Maps.{entry_at}
 use Rattle.model_streams.specs.Outcome.{packet}
@@ -20,6 +18,7 @@ use Rattle.model_partition.specs.declared.split_job.Side.{Side}
 use Rattle.model_partition.specs.declared.split_job.Side.TheVariants.{Low}
 use Rattle.model_partition.specs.declared.stage.Stage.TheVariants as stages
 use Rattle.model_partition.specs.declared.split_job.SplitJob.{SplitJob}
+use Rattle.model_partition.specs.declared.split_job.SplitPhase.{SplitPhase}
 use Rattle.model_partition.specs.declared.split_job.SplitPhase.TheVariants as phases
 use Rattle.model_partition.specs.Answering.{answered_number, is_answerer, answer_rule, give_up_all}
 use Rattle.model_partition.specs.Cluster.{Cluster}
@@ -28,19 +27,17 @@ use Rattle.model_partition.specs.Range.{RangeState, RangeOutcome, request, picki
 use Rattle.model_partition.specs.Server.{ServerState, ServerOutcome, range_of, set_range, split_of, set_split, counted, stepped_splitting, split_stepped, given_up_splitting}
 use Rattle.model_partition.specs.Servers.{ServerCell}
 use Rattle.model_partition.specs.Serving.{transact_rule}
-use Rattle.model_partition.specs.Splits.{SplitStep, open_last, all_streams, new_split, split_rule, follows, phase_awaits, split_reply, says_keys, keys_reply, keys_again, gives_up}
+use Rattle.model_partition.specs.Splits.{SplitStep, open_last, new_split, split_rule, follows, stays, map_told, phase_awaits, split_reply_in, split_reply, says_keys, keys_reply, keys_again, gives_up}
 use Rattle.model_histories.specs.ServerRun.{ServerRun, RangeEffect, Does, Tells, Rests}
-use Rattle.model_histories.specs.StreamActions.{StreamAction, SideAction, keys_said, keys_told, split_sides, transact_actions, answer_actions, split_stood, followed_actions}
-use Rattle.laws_ranges.specs.Serves.{metadata_of, log_of}
+use Rattle.model_histories.specs.StreamActions.{StreamAction, SideAction, keys_said, keys_told, sides_in, split_sides, transact_actions, answer_actions, split_stood, followed_actions}
 use Rattle.laws_ranges.specs.SplitJobs.{waits_seal, waits_call, TellsBuilt, LeavesKeys, SplitSees}
 use Rattle.laws_ranges.proofs.SplitBegins.{begins_split}
 use Rattle.laws_ranges.proofs.SplitReplies.{reply_split}
 use Rattle.laws_stream_machine.proofs.ServerRequests.{same_request}
-use Rattle.laws_clusters.proofs.Elsewhere.{BuildsAside}
 use Rattle.laws_clusters.proofs.RangeRules.{both, metadata_below, log_below}
 use Rattle.laws_clusters.proofs.RowSteps.{WasOut, IsNew}
 use Rattle.laws_clusters.proofs.MapWords.{IsFounded}
-use Rattle.laws_clusters.proofs.SplitRequests.{AllSent, BuildLeaves}
+use Rattle.laws_clusters.proofs.SplitRequests.{AllSent, BuildsCounted}
 use Rattle.laws_ranges.proofs.SplitsKept.{both_under, both_row_data}
 use Rattle.laws_servers.specs.Sending.{AllFromServers}
 use Rattle.laws_servers.proofs.ClientPackets.{from_servers}
@@ -56,7 +53,6 @@ use Rattle.laws_clusters.proofs.StepShapes.{RowsWaited, StepWaits}
 use Rattle.laws_clusters.proofs.SplitLeaves.{same_out, Leaves, leaves_none, reply_leaves, gives_up_leaves, begins_so}
 use Rattle.laws_servers.proofs.SplitSteps.{split_sends, split_reply_sends, split_gives_up_sends}
 use Rattle.laws_clusters.proofs.SplitBehind as behind
-use Rattle.laws_clusters.proofs.SplitBehind.{BuildsApart}
 use Rattle.laws_clusters.proofs.SplitPackets as one
 use Rattle.laws_clusters.proofs.SplitRules.{beside_step, acted, split_acted, transact_beside, get_beside, give_up_beside, answer_beside}
 use Rattle.laws_clusters.proofs.SplitStands as split
@@ -77,10 +73,10 @@ module _ (generation : ℕ → ℕ) (nodes target : ℕ) {base : Bases generatio
       (one.holds generation nodes target c y x s cell st at is range r found (Some job) was).follows)
 
   -- What is owed besides of what a rule of the range leaves: nobody appends to its blob stream, so that the last extent of that is sealed;
-  -- and what the split is then to build leaves the streams of other ranges.
+  -- and the two ranges of which the split is then to build streams are counted.
   pub record Owed (o : RangeOutcome) : Type 0 where
     pub blob : (next : RangeState) → o.after ≡ Some next → open_last next.blob_data.extents ≡ None
-    pub builds : (next : RangeState) → o.after ≡ Some next → BuildsApart c.stream_layer range (follows (counted st.context o) next job).job
+    pub builds : (next : RangeState) → o.after ≡ Some next → BuildsCounted (follows (counted st.context o) next job).job
 
   -- a rule of the range, and what its split then does
   rule_good : (o : RangeOutcome) (actions : List StreamAction) → Acts o actions → AllFromServers o.packets → LeavesRows st.context r.rows o → Owed o →
@@ -163,11 +159,11 @@ module _ (generation : ℕ → ℕ) (nodes target : ℕ) {base : Bases generatio
   pub gave_left : LeavesRows st.context r.rows given
   gave_left = give_up_leaves st.context r unread
 
-  -- what is owed besides: where keys are being appended, their append again; and what is then to be built leaves the streams of other ranges
+  -- what is owed besides: where keys are being appended, their append again; and what is then to be built is of ranges that are counted
   pub record OwedLeaving (next : RangeState) (there : given.after ≡ Some next) : Type 0 where
     pub keys : (side : Side) (k : ClientState) → job.phase ≡ phases.Keys side k →
         behind.GoesOn generation nodes target c y x s cell st at is range r found job was given [] gave_acted gave_from gave_left next there (keys_again (counted st.context given) next job side k)
-    pub builds : BuildsApart c.stream_layer range (gives_up (counted st.context given) next job).job
+    pub builds : BuildsCounted (gives_up (counted st.context given) next job).job
 
   pub give_up_good : ((next : RangeState) (there : given.after ≡ Some next) → OwedLeaving next there) → Good Rests (given_up_splitting st range job given given.after)
   give_up_good owed = go given.after refl
@@ -182,7 +178,7 @@ module _ (generation : ℕ → ℕ) (nodes target : ℕ) {base : Bases generatio
 
   -- what is so of a step of the split alone, which does this with the streams of the two ranges
   abbrev pub Heard : SplitStep → List SideAction → Type 0
-  Heard t sides = AllFromServers t.packets → Leaves st.context r job t → BuildsApart c.stream_layer range t.job → Good (Tells job.generation sides) (split_stepped st range t)
+  Heard t sides = AllFromServers t.packets → Leaves st.context r job t → BuildsCounted t.job → Good (Tells job.generation sides) (split_stepped st range t)
 
   heard : (t : SplitStep) → SplitSees generation range (one.w generation nodes target c y x s cell st at is range r found (Some job) was) i (view_at range y s) (m_side generation (x.machines range) i) (l_side generation (x.machines range) i) st.context t [] →
       LeavesKeys st.context r job t → Heard t []
@@ -191,29 +187,85 @@ module _ (generation : ℕ → ℕ) (nodes target : ℕ) {base : Bases generatio
       (split_acted generation nodes target c y x range founded i st.context (one.sent_by generation nodes target c y x s cell st at is range r found (Some job) was) (view_at range y s)
       (one.seen_here generation nodes target c y x s cell st at is range r found (Some job) was) r job (one.holds generation nodes target c y x s cell st at is range r found (Some job) was).follows
       (one.past_rows generation nodes target c y x s cell st at is range r found (Some job) was) t sees (leaves_none st.context r job t leaves))
-      sends leaves keys.keys ((λ j apart. (there (metadata_of j) (builds.0 j apart).0, there (log_of j) (builds.0 j apart).1)), builds.1)
+      sends leaves keys.keys builds
       (set_range st.ranges range t.range) (one.shape_of generation nodes target c y x s cell st at is range r found (Some job) was t.range) (set_split st.splits range t.job)
       (one.splits_of generation nodes target c y x s cell st at is range r found (Some job) was t.job) laid
-    where
-      there : (name : StreamName) → BuildLeaves name c.stream_layer t.job → BuildLeaves name (one.w generation nodes target c y x s cell st at is range r found (Some job) was) t.job
-      there name leaves_so = λ other has q at_build. subst (λ (w : StreamSystem). BuildsAside name w (bodies.Stream (streams.MultiModify (all_streams other) q))) (sym x.leads) (leaves_so other has q at_build)
 
-  -- What is owed besides: the numbers that the map gives are other ones, what is then to be built leaves the streams of other ranges, and
-  -- the appends of keys.
+  -- What is owed besides: the numbers that the map gives are other ones, what is then to be built is of ranges that are counted, and the
+  -- appends of keys.
   pub record OwedHearing (body : Body) : Type 0 where
-    pub numbered : (q : ReqNo) (low high : ℕ) → body ≡ bodies.Map (maps.SplitBegun q low high) → (low ≡ range → ⊥) × (high ≡ range → ⊥)
-    pub builds : BuildsApart c.stream_layer range (split_reply st.context r job body).job
+    pub numbered : (v : ReqNo) → job.phase ≡ phases.Begin v → (q : ReqNo) (low high : ℕ) → body ≡ bodies.Map (maps.SplitBegun q low high) → (low ≡ range → ⊥) × (high ≡ range → ⊥)
+    pub builds : BuildsCounted (split_reply st.context r job body).job
     pub says : TellsBuilt body → (q : ReqNo) → job.phase ≡ phases.Build q → Heard (says_keys st.context r job Low) (keys_said r job Low)
     pub keys : (side : Side) (k : ClientState) → job.phase ≡ phases.Keys side k → Heard (keys_reply st.context r job side k body) (keys_told r job side k (reply_rule (picking st.context k) (request st.context) body).news)
 
+  -- the numbers of a split come where it begins alone
+  abbrev IsBehind : SplitPhase → Type 0
+  IsBehind (phases.Begin q) = ⊥
+  IsBehind (phases.Keys side k) = ⊥
+  IsBehind phase = Unit {0}
+
+  abbrev told_pair : ReqNo → ℕ → ℕ → Body
+  told_pair q low high = bodies.Map (maps.SplitBegun q low high)
+
+  stays_so : (phase : SplitPhase) → job.phase ≡ phase → IsBehind phase → (q : ReqNo) (low high : ℕ) → split_reply st.context r job (told_pair q low high) ≡ stays st.context r job
+  stays_so phase e behind q low high = ap (λ p. split_reply_in st.context r job p (told_pair q low high)) e ∙ in_phase phase behind ∙ ap (λ p. map_told st.context r job p (maps.SplitBegun q low high)) e ∙ at_phase phase behind
+    where
+      in_phase : (phase : SplitPhase) → IsBehind phase → split_reply_in st.context r job phase (told_pair q low high) ≡ map_told st.context r job job.phase (maps.SplitBegun q low high)
+      in_phase (phases.Begin v) behind = absurd behind
+      in_phase (phases.Keys side k) behind = absurd behind
+      in_phase phase behind = refl
+
+      at_phase : (phase : SplitPhase) → IsBehind phase → map_told st.context r job phase (maps.SplitBegun q low high) ≡ stays st.context r job
+      at_phase (phases.Begin v) behind = absurd behind
+      at_phase phase behind = refl
+
+  no_sides : (phase : SplitPhase) → job.phase ≡ phase → IsBehind phase → (q : ReqNo) (low high : ℕ) → split_sides st.context r job (told_pair q low high) ≡ []
+  no_sides phase e behind q low high = ap (λ p. sides_in st.context r job p (told_pair q low high)) e ∙ at_phase phase behind
+    where
+      at_phase : (phase : SplitPhase) → IsBehind phase → sides_in st.context r job phase (told_pair q low high) ≡ []
+      at_phase (phases.Keys side k) behind = absurd behind
+      at_phase phase behind = refl
+
+  abbrev HeardOf : Body → Type 0
+  HeardOf body = Heard (split_reply st.context r job body) (split_sides st.context r job body)
+
+  abbrev AreOthers : Body → Type 0
+  AreOthers body = (q : ReqNo) (low high : ℕ) → body ≡ told_pair q low high → (low ≡ range → ⊥) × (high ≡ range → ⊥)
+
   pub reply_good : (p : Packet) → Contains (one.w generation nodes target c y x s cell st at is range r found (Some job) was).post (packet p.from (Server s) p.body) → is_answerer p.from p.body ≡ true → (u : ReqNo) → answered_number p.body ≡ Some u →
       phase_awaits job.phase u ≡ true → OwedHearing p.body → Good (Tells job.generation (split_sides st.context r job p.body)) (split_stepped st range (split_reply st.context r job p.body))
-  reply_good p there gives u number waits owed =
-      reply_split generation range (one.w generation nodes target c y x s cell st at is range r found (Some job) was) i (both generation nodes target c y x range founded) (m_side generation (x.machines range) i) (l_side generation (x.machines range) i) st.context
-      (one.sent_by generation nodes target c y x s cell st at is range r found (Some job) was) (view_at range y s) r job (one.holds generation nodes target c y x s cell st at is range r found (Some job) was).follows
-      (one.past_rows generation nodes target c y x s cell st at is range r found (Some job) was) Heard heard u waits p.body owed.says (λ side k e. owed.keys side k e) number owed.numbered
-      ((metadata_below generation nodes target c y x range founded).mean p.from s p.body there gives) ((log_below generation nodes target c y x range founded).mean p.from s p.body there gives)
-      (split_reply_sends st.context r job p.body) (reply_leaves st.context r job p.body) owed.builds
+  reply_good p there gives u number waits owed = by_phase job.phase refl (split_reply_sends st.context r job p.body) (reply_leaves st.context r job p.body) owed.builds
+    where
+      replies : AreOthers p.body → HeardOf p.body
+      replies numbered =
+          reply_split generation range (one.w generation nodes target c y x s cell st at is range r found (Some job) was) i (both generation nodes target c y x range founded) (m_side generation (x.machines range) i) (l_side generation (x.machines range) i) st.context
+          (one.sent_by generation nodes target c y x s cell st at is range r found (Some job) was) (view_at range y s) r job (one.holds generation nodes target c y x s cell st at is range r found (Some job) was).follows
+          (one.past_rows generation nodes target c y x s cell st at is range r found (Some job) was) Heard heard u waits p.body owed.says (λ side k e. owed.keys side k e) number numbered
+          ((metadata_below generation nodes target c y x range founded).mean p.from s p.body there gives) ((log_below generation nodes target c y x range founded).mean p.from s p.body there gives)
+
+      -- numbers that are told to a split that has some leave it so, as others do
+      tells : (phase : SplitPhase) → job.phase ≡ phase → IsBehind phase → (q : ReqNo) → answered_number (told_pair q 0 0) ≡ Some u → HeardOf (told_pair q (suc range) (suc range))
+      tells phase e behind q same =
+          reply_split generation range (one.w generation nodes target c y x s cell st at is range r found (Some job) was) i (both generation nodes target c y x range founded) (m_side generation (x.machines range) i) (l_side generation (x.machines range) i) st.context
+          (one.sent_by generation nodes target c y x s cell st at is range r found (Some job) was) (view_at range y s) r job (one.holds generation nodes target c y x s cell st at is range r found (Some job) was).follows
+          (one.past_rows generation nodes target c y x s cell st at is range r found (Some job) was) Heard heard u waits (told_pair q (suc range) (suc range)) (λ never. absurd never)
+          (λ side k keys. absurd (subst IsBehind (sym e ∙ keys) behind)) same
+          (λ v low high is_it. (λ a. (let b : suc range ≡ low = cc in omega (arith, a, b)), λ a. (let b : suc range ≡ high = cc in omega (arith, a, b)))) tt tt
+
+      behind_good : (phase : SplitPhase) → job.phase ≡ phase → IsBehind phase → (body : Body) → p.body ≡ body → HeardOf p.body
+      behind_good phase e behind (bodies.Map (maps.SplitBegun q low high)) is_it =
+          let same : answered_number (told_pair q 0 0) ≡ Some u = sym (ap answered_number is_it) ∙ number in
+          subst HeardOf (sym is_it)
+          (subst (λ t. Heard t (split_sides st.context r job (told_pair q low high))) (stays_so phase e behind q (suc range) (suc range) ∙ sym (stays_so phase e behind q low high))
+          (subst (λ l. Heard (split_reply st.context r job (told_pair q (suc range) (suc range))) l) (no_sides phase e behind q (suc range) (suc range) ∙ sym (no_sides phase e behind q low high)) (tells phase e behind q same)))
+      behind_good phase e behind (bodies.Map body) is_it = replies (λ q low high other. absurd (let z : bodies.Map body ≡ told_pair q low high = sym is_it ∙ other in cc))
+      behind_good phase e behind body is_it = replies (λ q low high other. absurd (let z : body ≡ told_pair q low high = sym is_it ∙ other in cc))
+
+      by_phase : (phase : SplitPhase) → job.phase ≡ phase → HeardOf p.body
+      by_phase (phases.Begin v) e = replies (owed.numbered v e)
+      by_phase (phases.Keys side k) e = subst (λ z. Heard (split_reply_in st.context r job z p.body) (sides_in st.context r job z p.body)) (sym e) (owed.keys side k e)
+      by_phase phase e = behind_good phase e tt p.body refl
 
 -- ---- a split begins
 
@@ -256,5 +308,39 @@ module _ (generation : ℕ → ℕ) (nodes target : ℕ) {base : Bases generatio
   pub begins_good : AreLaid (run_done c y s cell Rests (split_stepped st range begun)) [] → Standing generation nodes target base (rule_done c s cell (split_stepped st range begun)) (run_done c y s cell Rests (split_stepped st range begun))
   begins_good laid =
       one.step_stands generation nodes target c y x s cell st at is range r found None was begun [] [] begun_acted (split_sends st.context r key) begun_waits (λ e. absurd (let z : Some r ≡ None = e in cc)) (λ e. absurd (let z : Some r ≡ None = e in cc))
-      ((λ j apart. ((tt, tt), (tt, tt))), (tt, tt)) (set_range st.ranges range (Some r)) (one.shape_of generation nodes target c y x s cell st at is range r found None was (Some r)) (set_split st.splits range (Some begun_job))
+      (tt, tt) (set_range st.ranges range (Some r)) (one.shape_of generation nodes target c y x s cell st at is range r found None was (Some r)) (set_split st.splits range (Some begun_job))
       (one.splits_of generation nodes target c y x s cell st at is range r found None was (Some begun_job)) laid
+
+-- What is owed besides at a server whose ranges are being split, for what it takes: see each of them.
+pub record SplitsOwed (generation : ℕ → ℕ) (nodes target : ℕ) {base : Bases generation} (c : Cluster) (y : ServerRun) (x : Standing generation nodes target base c y) (s : ℕ) (cell : ServerCell) (st : ServerState) (at : entry_at c.servers s ≡ Some cell) (is : cell.state ≡ Some st) : Type 0 where
+  pub transacts : (range : ℕ) (r : RangeState) (found : range_of st.ranges range ≡ Some r) (job : SplitJob) (was : split_of st.splits range ≡ Some job) (from : ActorId) (q : ReqNo) (changes : List Change) →
+      Owed generation nodes target c y x s cell st at is range r found job was (transact_rule st.context r from q changes)
+  pub gets : (range : ℕ) (r : RangeState) (found : range_of st.ranges range ≡ Some r) (job : SplitJob) (was : split_of st.splits range ≡ Some job) (from : ActorId) (q : ReqNo) (key : List ℕ) →
+      Owed generation nodes target c y x s cell st at is range r found job was (get_rule st.context r from q key)
+  pub answers : (range : ℕ) (r : RangeState) (found : range_of st.ranges range ≡ Some r) (job : SplitJob) (was : split_of st.splits range ≡ Some job) (p : Packet) → Contains c.stream_layer.post p → p.to ≡ Server s → (u : ReqNo) →
+      Owed generation nodes target c y x s cell st at is range r found job was (answer_rule st.context r u p.body)
+  pub hears : (range : ℕ) (r : RangeState) (found : range_of st.ranges range ≡ Some r) (job : SplitJob) (was : split_of st.splits range ≡ Some job) (p : Packet) → Contains c.stream_layer.post p → p.to ≡ Server s → (u : ReqNo) →
+      answered_number p.body ≡ Some u → phase_awaits job.phase u ≡ true → OwedHearing generation nodes target c y x s cell st at is range r found job was p.body
+
+-- and where it gives up
+abbrev pub LeavingOwed : (generation : ℕ → ℕ) (nodes target : ℕ) {base : Bases generation} (c : Cluster) (y : ServerRun) (x : Standing generation nodes target base c y) (s : ℕ) (cell : ServerCell) (st : ServerState) (at : entry_at c.servers s ≡ Some cell) (is : cell.state ≡ Some st) → Type 0
+LeavingOwed generation nodes target c y x s cell st at is =
+    (range : ℕ) (r : RangeState) (found : range_of st.ranges range ≡ Some r) (job : SplitJob) (was : split_of st.splits range ≡ Some job) (next : RangeState) (there : (give_up_all st.context r).after ≡ Some next) →
+    OwedLeaving generation nodes target c y x s cell st at is range r found job was next there
+
+-- where nothing is split nothing is owed
+not_split : (st : ServerState) → st.splits ≡ [] → (range : ℕ) (job : SplitJob) → split_of st.splits range ≡ Some job → ⊥
+not_split st none range job was = let z : None ≡ Some job = sym (ap (λ l. split_of l range) none) ∙ was in cc
+
+pub none_owed : (generation : ℕ → ℕ) (nodes target : ℕ) {base : Bases generation} (c : Cluster) (y : ServerRun) (x : Standing generation nodes target base c y) (s : ℕ) (cell : ServerCell) (st : ServerState) (at : entry_at c.servers s ≡ Some cell) (is : cell.state ≡ Some st) → st.splits ≡ [] →
+    SplitsOwed generation nodes target c y x s cell st at is
+none_owed generation nodes target c y x s cell st at is none = record {
+  transacts = λ range r found job was from q changes. absurd (not_split st none range job was);
+  gets = λ range r found job was from q key. absurd (not_split st none range job was);
+  answers = λ range r found job was p there to u. absurd (not_split st none range job was);
+  hears = λ range r found job was p there to u number waits. absurd (not_split st none range job was);
+}
+
+pub none_leaving : (generation : ℕ → ℕ) (nodes target : ℕ) {base : Bases generation} (c : Cluster) (y : ServerRun) (x : Standing generation nodes target base c y) (s : ℕ) (cell : ServerCell) (st : ServerState) (at : entry_at c.servers s ≡ Some cell) (is : cell.state ≡ Some st) → st.splits ≡ [] →
+    LeavingOwed generation nodes target c y x s cell st at is
+none_leaving generation nodes target c y x s cell st at is none range r found job was next there = absurd (not_split st none range job was)

@@ -22,7 +22,7 @@ use Rattle.model_partition.specs.Splits.{SplitStep}
 use Rattle.model_histories.specs.ServerRun.{ServerRun}
 use Rattle.model_histories.specs.StreamActions.{StreamAction}
 use Rattle.laws_loads.specs.RangeView.{RangeView}
-use Rattle.laws_ranges.specs.Serves.{Side, after_turns, metadata_of, log_of}
+use Rattle.laws_ranges.specs.Serves.{Side, after_turns}
 use Rattle.laws_ranges.specs.SplitJobs.{waits_seal, waits_call, IsForSplit, IsBuildOf, IsUnkeyed, IsUnkeyedIf, AskedOfSplit, SplitSees}
 use Rattle.laws_servers.specs.Sending.{AllFromServers}
 use Rattle.laws_server_runs.specs.RunInvariant.{view_at}
@@ -35,8 +35,7 @@ use Rattle.laws_clusters.proofs.SplitLeaves.{IsKeyed, LeavesUnkeyed, same_out, S
 use Rattle.laws_clusters.proofs.MapWords.{IsFounded}
 use Rattle.laws_clusters.proofs.RangeStreams.{HasStreams}
 use Rattle.laws_clusters.proofs.SplitPackets as one
-use Rattle.laws_clusters.proofs.SplitRequests.{AllSent, sent_in, clients_send, in_used, clients_aside, BuildLeaves, sent_aside, BuildsCounted, AllAskOfSplit, clients_of_split, sent_of_split}
-use Rattle.laws_clusters.proofs.Elsewhere.{AllBuildAside}
+use Rattle.laws_clusters.proofs.SplitRequests.{AllSent, sent_in, clients_send, in_used, BuildsCounted, AllAskOfSplit, clients_of_split, sent_of_split}
 use Rattle.laws_clusters.proofs.SplitRules.{beside_step}
 
 -- ---- a range that goes tells its users alone
@@ -119,11 +118,6 @@ module _ (generation : ℕ → ℕ) (nodes target : ℕ) {base : Bases generatio
   abbrev pub Does : SplitStep → List StreamAction → Type 0
   Does t actions = one.Does generation nodes target c y x s cell st at is range r found (Some job) was t actions
 
-  -- what its split is to build leaves the streams of other ranges, and is of ranges that are counted
-  abbrev pub BuildsLeave : Option SplitJob → Type 0
-  BuildsLeave later =
-      ((j : ℕ) → (j ≡ range → ⊥) → BuildLeaves (metadata_of j) (one.w generation nodes target c y x s cell st at is range r found (Some job) was) later × BuildLeaves (log_of j) (one.w generation nodes target c y x s cell st at is range r found (Some job) was) later) × BuildsCounted later
-
   abbrev pub Stands : SplitStep → List TableNote → List StreamAction → List (ℕ × RangeState) → List (ℕ × SplitJob) → Type 0
   Stands t notes actions ranges splits =
       Standing generation nodes target base (one.cluster_after generation nodes target c y x s cell st at is range r found (Some job) was t notes ranges splits)
@@ -159,7 +153,7 @@ module _ (generation : ℕ → ℕ) (nodes target : ℕ) {base : Bases generatio
       IsShown (beside_step job o) notes actions (set_range st.ranges range o.after) st.splits → Stands (beside_step job o) notes actions (set_range st.ranges range o.after) st.splits
   rule_stands o notes actions acted senders left next is_next shown =
       one.step_stands generation nodes target c y x s cell st at is range r found (Some job) was (beside_step job o) notes actions acted senders (rule_waits o actions acted left) (λ gone. absurd (let z : Some next ≡ None = sym is_next ∙ gone in cc))
-      (λ gone. absurd (let z : Some next ≡ None = sym is_next ∙ gone in cc)) ((λ j apart. (clients_aside (metadata_of j) w next o.packets asks, clients_aside (log_of j) w next o.packets asks)), clients_of_split c.stream_layer next o.packets asks) (set_range st.ranges range o.after) (one.shape_of generation nodes target c y x s cell st at is range r found (Some job) was o.after) st.splits
+      (λ gone. absurd (let z : Some next ≡ None = sym is_next ∙ gone in cc)) (clients_of_split c.stream_layer next o.packets asks) (set_range st.ranges range o.after) (one.shape_of generation nodes target c y x s cell st at is range r found (Some job) was o.after) st.splits
       (one.same_splits generation nodes target c y x s cell st at is range r found (Some job) was) shown
     where
       asks : AllIn next o.packets
@@ -173,7 +167,7 @@ module _ (generation : ℕ → ℕ) (nodes target : ℕ) {base : Bases generatio
       IsShown (gone_step o) notes actions (set_range st.ranges range None) (set_split st.splits range None) → Stands (gone_step o) notes actions (set_range st.ranges range None) (set_split st.splits range None)
   drop_stands o notes actions acted senders left gone shown =
       one.step_stands generation nodes target c y x s cell st at is range r found (Some job) was (gone_step o) notes actions went senders (λ next is_next. absurd (let z : None ≡ Some next = is_next in cc)) (λ e. refl)
-      (λ e p there q number. in_used r p.body q (sent_in r None o.packets (clients_send r None o.packets (plain r)) p there) number) ((λ j apart. (clients_aside (metadata_of j) w r o.packets (plain r), clients_aside (log_of j) w r o.packets (plain r))), clients_of_split c.stream_layer r o.packets (plain r))
+      (λ e p there q number. in_used r p.body q (sent_in r None o.packets (clients_send r None o.packets (plain r)) p there) number) (clients_of_split c.stream_layer r o.packets (plain r))
       (set_range st.ranges range None) (one.shape_of generation nodes target c y x s cell st at is range r found (Some job) was None) (set_split st.splits range None) (one.splits_of generation nodes target c y x s cell st at is range r found (Some job) was None) shown
     where
       plain : (n : RangeState) → AllIn n o.packets
@@ -262,20 +256,14 @@ module _ (generation : ℕ → ℕ) (nodes target : ℕ) {base : Bases generatio
       by_job (Some later) e k = absurd (subst (λ z. LeavesIn st.context r job None z t.count t.packets) e k)
 
   -- the split goes on
-  pub split_stands : (t : SplitStep) (notes : List TableNote) (actions : List StreamAction) → Does t actions → AllFromServers t.packets → Leaves st.context r job t → LeavesUnkeyed st.context r job t → BuildsLeave t.job →
+  pub split_stands : (t : SplitStep) (notes : List TableNote) (actions : List StreamAction) → Does t actions → AllFromServers t.packets → Leaves st.context r job t → LeavesUnkeyed st.context r job t → BuildsCounted t.job →
       (ranges : List (ℕ × RangeState)) → AreLeft st.ranges ranges range t.range → (splits : List (ℕ × SplitJob)) → SplitsLeft st.splits splits range t.job → IsShown t notes actions ranges splits → Stands t notes actions ranges splits
   split_stands t notes actions acted senders leaves keys builds ranges shape splits split_shape shown =
       one.step_stands generation nodes target c y x s cell st at is range r found (Some job) was t notes actions acted senders (split_waits t actions acted leaves keys) (split_ends t leaves)
-      (λ gone p there q number. in_used r p.body q (sent_in r None t.packets (clients_send r None t.packets (plain gone r)) p there) number) aside ranges shape splits split_shape shown
+      (λ gone p there q number. in_used r p.body q (sent_in r None t.packets (clients_send r None t.packets (plain gone r)) p there) number) (of_split t.range refl) ranges shape splits split_shape shown
     where
       plain : t.range ≡ None → (n : RangeState) → AllIn n t.packets
       plain gone = subst (λ z. LeavesIn st.context r job None z t.count t.packets) (split_ends t leaves gone) (subst (λ a. LeavesIn st.context r job a t.job t.count t.packets) gone leaves)
-
-      by_range : (j : ℕ) → (j ≡ range → ⊥) → (a : Option RangeState) → t.range ≡ a → AllBuildAside (metadata_of j) w t.packets × AllBuildAside (log_of j) w t.packets
-      by_range j apart None gone = (clients_aside (metadata_of j) w r t.packets (plain gone r), clients_aside (log_of j) w r t.packets (plain gone r))
-      by_range j apart (Some next) there =
-          let sent : AllSent next t.job t.packets = (split_waits t actions acted leaves keys next there).sent in
-          (sent_aside (metadata_of j) w next t.job (builds.0 j apart).0 t.packets sent, sent_aside (log_of j) w next t.job (builds.0 j apart).1 t.packets sent)
 
       of_split : (a : Option RangeState) → t.range ≡ a → AllAskOfSplit c.stream_layer t.packets
       of_split None gone = clients_of_split c.stream_layer r t.packets (plain gone r)
@@ -284,8 +272,5 @@ module _ (generation : ℕ → ℕ) (nodes target : ℕ) {base : Bases generatio
           (λ later e q phase.
           (let founded : IsFounded c.stream_layer range = one.founded generation nodes target c y x s cell st at is range r found (Some job) was in
           let same : later.range ≡ range = one.range_of_job generation nodes target c y x s cell st at is range r found (Some job) was t actions acted later e next there in
-          record { job = later; is = refl; counted = subst (λ n. 1 ≤ n) (sym same) founded.0; sides = builds.1 later e q phase; streams = subst (HasStreams c.stream_layer) (sym same) founded.1 }))
+          record { job = later; is = refl; counted = subst (λ n. 1 ≤ n) (sym same) founded.0; sides = builds later e q phase; streams = subst (HasStreams c.stream_layer) (sym same) founded.1 }))
           t.packets (split_waits t actions acted leaves keys next there).sent
-
-      aside : one.AreAside generation nodes target c y x s cell st at is range r found (Some job) was t.packets
-      aside = ((λ j apart. by_range j apart t.range refl), of_split t.range refl)

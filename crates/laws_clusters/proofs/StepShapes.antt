@@ -163,7 +163,14 @@ whose o s range i t j k e = go (t == s) (j == range) refl refl e
 
 -- ---- numbers and packets
 
+pub same_value : {A : Type 0} → (o : Option A) (a b : A) → o ≡ Some a → o ≡ Some b → b ≡ a
+same_value {A} o a b one two = let both : Some b ≡ Some a = sym two ∙ one in cc
+
 module _ (generation : ℕ → ℕ) where
+  pub has_not : (z : Machines generation) (q : ReqNo) → HasNumber generation z q → HasNone generation z q → ⊥
+  has_not z q (p, inl has) none = let e : None ≡ Some p = sym none.0 ∙ has in cc
+  has_not z q (p, inr has) none = let e : None ≡ Some p = sym none.1 ∙ has in cc
+
   -- a number of both lists, or of one
   pub has_number : (z : Machines generation) (q : ReqNo) → (purpose_of z.m_sent q ≡ None → purpose_of z.l_sent q ≡ None → ⊥) → HasNumber generation z q
   has_number z q known = go (purpose_of z.m_sent q) (purpose_of z.l_sent q) refl refl

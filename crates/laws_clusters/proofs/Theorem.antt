@@ -47,7 +47,8 @@ use Rattle.laws_clusters.proofs.Invariant.{SplitAt, Waiter, OfRows, OfSeal, OfCa
 use Rattle.laws_clusters.proofs.ObservedBytes.{observed_stand}
 use Rattle.laws_clusters.proofs.OneRange.{IsOneRange, one_range_on, assigns_first, builds_none, completes_none, first_is_one}
 use Rattle.laws_server_runs.specs.Places.{AreAscending}
-use Rattle.laws_clusters.proofs.ServerPackets.{none_stands, none_gives_up_then}
+use Rattle.laws_clusters.proofs.ServerPackets.{none_picked}
+use Rattle.laws_clusters.proofs.SplitServers.{none_owed}
 use Rattle.laws_clusters.proofs.ServerRules.{IsLaid}
 use Rattle.laws_clusters.proofs.StreamOrders.{m_order, l_order, m_once, l_once, m_ends, l_ends, in_order}
 use Rattle.laws_clusters.proofs.RangeStreams.{HasStreams}
@@ -308,7 +309,7 @@ module _ (nodes target batch count : ℕ) where
 
     packet_owes : (p : Packet) → Contains c.stream_layer.post p → (to : ActorId) → PacketOwes nodes target batch count c coming x.stands p to
     packet_owes p there (Server s) = (
-      (λ cell at st is. none_stands generation_at plenty nodes target c y x.stands s cell st at is (whole nodes target batch count c coming x.stands s cell at st is) (none s cell at st is).0),
+      (λ cell st at is. none_owed generation_at nodes target c y x.stands s cell st at is (none s cell at st is).0),
       run_laid (Takes s p ∷ coming) (tt, x.unsplit),
     )
     packet_owes p there Map = completes_none c x.one p there
@@ -319,7 +320,7 @@ module _ (nodes target batch count : ℕ) where
     nothing_owed : (event : Event) → clusters.IsUnsplit event → EventOwes nodes target batch count c coming x.stands event
     nothing_owed (Deliver number) is = λ p at. packet_owes p (contains_get c.stream_layer.post number p at) p.to
     nothing_owed (GiveUp s range pick) is = (
-      none_gives_up_then generation_at plenty nodes target c y x.stands (whole nodes target batch count c coming x.stands) s range pick (λ cell at st is. (none s cell at st is).0),
+      none_picked generation_at plenty nodes target c y x.stands (whole nodes target batch count c coming x.stands) s range pick (λ cell st at is. (none s cell at st is).0),
       run_laid (GivesUp s range pick ∷ coming) (tt, x.unsplit),
     )
     nothing_owed (Checkpoint s range combine) is = run_laid (Checkpoints s range combine ∷ coming) (tt, x.unsplit)

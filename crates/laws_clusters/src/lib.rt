@@ -18,10 +18,11 @@
 //! Each split that is shown makes two children, and none the first range (`Births`, `FirstUnborn`); what is told of the range comes under
 //! no higher generation than the split, and what is told of the two under higher ones (`NoteBounds`).
 //! The invariant stands beside splits too: each range at a server follows its streams and its split, whose requests are told apart by
-//! their numbers (`SplitRequests`, `RowSteps`), and the streams of two ranges may be built of its own (`BuiltRanges`). It stands after
-//! what a server does with a range that is being split (`SplitStands`, `SplitBehind`, `SplitServers`), but for the appends of keys; what
-//! is owed there is said by `OwedHearing` and `OwedLeaving`. The logs of ranges that were built of each other stay one for what both had
-//! then (`SharedLogs`, `SharesInRuns`). Each split that is shown was one of a server that waited for its end (`EndedSplits`), and streams are
-//! built as splits wait for them (`BornSo`, `UntoldRanges`); so what is told of a run without merges replays, where nothing is owed of
-//! its events (`ToldRanges`, `SplitRuns`). That nothing is owed is not proved yet, and no contract uses these.
+//! their numbers (`SplitRequests`, `RowSteps`), and the streams of two ranges may be built of its own (`BuiltRanges`). It stands on
+//! through each event of a run without merges, but for what is owed there (`ClusterEvents`: `EventOwes`; `SplitServers`: `SplitsOwed`,
+//! `LeavingOwed`), the appends of keys and that the range's blob stream is sealed among it. The logs of ranges that were built of each
+//! other stay one for what both had then (`SharedLogs`, `SharesInRuns`). Each split that is shown was one of a server that waited for
+//! its end (`EndedSplits`), and streams are built as splits wait for them (`BornSo`, `UntoldRanges`); so what is told of a run without
+//! merges replays, where nothing is owed of its events (`ToldRanges`, `SplitRuns`). That nothing is owed is not proved yet, and no
+//! contract uses these.
 #![tactic(auto)]

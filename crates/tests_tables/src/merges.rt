@@ -681,7 +681,7 @@ fn assigned(alloc: Global, range: u64) -> Result<RangeState, Fail> {
     Ok(state)
 }
 
-fn merging(alloc: Global) -> Result<Merging, Fail> {
+fn two_assigned(alloc: Global) -> Result<Merging, Fail> {
     let left = assigned(alloc, 2)?;
     let right = assigned(alloc, 3)?;
     Ok(Merging {
@@ -693,7 +693,7 @@ fn merging(alloc: Global) -> Result<Merging, Fail> {
 #[test]
 fn merges_go_as_their_cases_say(rt: HostRuntime) -> Result<(), Fail> {
     for (name, parts) in CASES {
-        let start = merging(rt.alloc())?;
+        let start = two_assigned(rt.alloc())?;
         assert!(rt; holds(rt.alloc(), start, *parts)?, "{name}");
     }
     Ok(())
