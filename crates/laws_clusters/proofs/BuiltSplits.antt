@@ -250,11 +250,11 @@ module _ (nodes servers target batch : ℕ) where
   abbrev of : List Event → Cluster
   of done = cluster_after_all first done
 
-  pushed : (done : List Event) (event : Event) (c : Cluster) → cluster_after_all c (done ++ event ∷ []) ≡ cluster_after (cluster_after_all c done) event
+  pub pushed : (done : List Event) (event : Event) (c : Cluster) → cluster_after_all c (done ++ event ∷ []) ≡ cluster_after (cluster_after_all c done) event
   pushed [] event c = refl
   pushed (x ∷ done) event c = pushed done event (cluster_after c x)
 
-  unmerged_pushed : (done : List Event) (event : Event) → AreUnmerged done → IsUnmerged event → AreUnmerged (done ++ event ∷ [])
+  pub unmerged_pushed : (done : List Event) (event : Event) → AreUnmerged done → IsUnmerged event → AreUnmerged (done ++ event ∷ [])
   unmerged_pushed [] event are is = (is, tt)
   unmerged_pushed (x ∷ done) event are is = (are.0, unmerged_pushed done event are.1 is)
 

@@ -86,10 +86,16 @@ pub mod UntouchedStreams
 pub mod BuiltInRuns
 pub mod BornSo
 pub mod SplitNumbers
+pub mod ClosedServers
+pub mod SplitsInRuns
+pub mod CompletedSplits
+pub mod SharesInRuns
+pub mod SplitEvents
 pub mod Theorem
 pub mod EndedSplits
 pub mod ToldRanges
-pub mod SharesInRuns
 pub mod SharedRuns
 pub mod UntoldRanges
+pub mod BareRanges
 pub mod SplitRuns
+pub mod SplitReplays

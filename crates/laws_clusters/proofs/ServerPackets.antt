@@ -482,7 +482,7 @@ module _ (generation : ℕ → ℕ) (plenty : (g n : ℕ) → (i : ℕ) × (n �
             let actions : List StreamAction = answer_actions st.context r v p.body o in
             subst (λ e. Good e (answer_in st p v range (Some r))) (sym (ap (λ j. Does range r.load.generation (followed_actions (counted st.context o) j o.after ++ (split_stood st.context r j v p.body o ++ actions))) was))
             (subst (Good (Does range r.load.generation (followed_actions (counted st.context o) (Some job) o.after ++ (split_stood st.context r (Some job) v p.body o ++ actions)))) (sym (answer_unmerged st whole p v range r ∙ ap (λ j. stepped_with st range j o) was))
-            (splits.answer_good generation nodes target c y x s cell st at is range r found job was p there gives v number (owed.answers range r found job was p sent to v)))
+            (splits.answer_good generation nodes target c y x s cell st at is range r found job was p there gives v number (owed.answers range r found job was p sent to v number)))
 
         hear_split : (p : Packet) → Contains c.stream_layer.post p → p.to ≡ Server s → Contains w.post (packet p.from (Server s) p.body) → is_answerer p.from p.body ≡ true → (v : ReqNo) → answered_number p.body ≡ Some v → phase_awaits job.phase v ≡ true →
             Good (split_effect_in st p (Some r) (Some job)) (split_answer_in st p range (Some r) (Some job))

@@ -33,6 +33,7 @@ use Rattle.model_partition.specs.Server.{ServerState, range_of, split_of}
 use Rattle.model_histories.specs.ServerRun.{ServerRun, after_actions, with_outcome, stream_named}
 use Rattle.model_partition.specs.Servers.{ServerCell, noted, with_told}
 use Rattle.model_histories.specs.ServerTurns.{after_all}
+use Rattle.model_histories.specs.ServerTurns as machine
 use Rattle.model_histories.specs.StreamActions.{StreamAction}
 use Rattle.model_histories.specs.TableContents.{AllTellRightly}
 use Rattle.laws_loads.specs.RangeView.{RangeView, view_after_all}
@@ -59,7 +60,7 @@ use Rattle.laws_clusters.proofs.RowRules.{AsksIn}
 use Rattle.laws_clusters.proofs.ClientJobs.{AsksBy}
 use Rattle.laws_clusters.proofs.RowPurposes.{rows_aside, own_asks, rows_request}
 pub use Rattle.laws_clusters.proofs.StepShapes.{IsNear, IsLaid, AreLaid, laid_behind, plain_laid}
-use Rattle.laws_clusters.proofs.StepShapes.{same_value, has_number, has_none, has_not, all_else, AreLeft, SplitsLeft, keep_asks, RowsWaited, SealWaited, CallWaited, StepWaits, below_next, other_range, other_server, with_one, one_here, one_other, whose}
+use Rattle.laws_clusters.proofs.StepShapes.{same_value, has_number, has_none, has_not, all_else, AreLeft, SplitsLeft, keep_asks, RowsWaited, SealWaited, CallWaited, StepWaits, below_next, other_range, other_server, with_one, one_here, one_other, whose, own_with_one}
 use Rattle.laws_clusters.proofs.RowSteps.{same_asks, IsNew, WaitedBefore, Steady, StepOfWaits, all_out}
 use Rattle.laws_clusters.proofs.SplitRequests.{SplitSends, IsRequestOf, sent_in, in_used, in_asks, sends_asks, sends_waits, one_answer, known_by, seal_waits, sends_rows, asks_rows, no_request}
 use Rattle.laws_clusters.proofs.ServerNotes.{server_notes}
@@ -69,7 +70,6 @@ use Rattle.laws_clusters.proofs.RangeRules.{metadata_below, log_below, Acted}
 use Rattle.laws_clusters.proofs.RangeSteps.{m_after, l_after, machines_after, m_side_is, l_side_is, others_steady, goes_onward, goes_on}
 use Rattle.laws_clusters.proofs.StreamMachines.{Further, all_told}
 use Rattle.laws_clusters.proofs.Elsewhere.{RowsRequest, AreRowsElse, all_elsewhere, all_alone}
-use Rattle.laws_stream_machine.proofs.BuiltStreams.{IsAbsent}
 use Rattle.laws_stream_machine.proofs.LowerLayer.{below_alone}
 use Rattle.laws_clusters.proofs.RequestNumbers.{PastAt, IsPast, used_number, asked_used, AreNumbersPast, AllPast, past_on, past_step, new_past, all_past_adds, added_some, added_none}
 
@@ -507,59 +507,37 @@ module _ (generation : ℕ → ℕ) (nodes target : ℕ) where
 
       -- ---- the streams
 
-      -- a stream of another range
+      -- nobody asks for a stream of another range, where it is absent
+      asks_others : (j : ℕ) (name : StreamName) → (name.range ≡ range → ⊥) → AsksOthers name w (here generation nodes target later)
+      asks_others j name differ server to body there =
+          elim (Contains-append_cases w.post ps (packet (Server server) to body) (subst (λ (u : StreamSystem). Contains u.post (packet (Server server) to body)) told.leads there)) [
+            | inl before ↦ inl before
+            | inr now ↦ inr (all_alone generation range w i m_then l_then name differ t.range t.job ps asked (rows_else j [] (λ q none. refl)) (packet (Server server) to body) now)
+          ]
+
+      aside_stream : (j : ℕ) (name : StreamName) → (name.range ≡ range → ⊥) → (name.kind ≡ kinds.BlobData → ⊥) → (moves : List (machine.Move Group generation)) (sent : List Sent) → ((q : ReqNo) → HasNumber generation new q → purpose_of sent q ≡ None) →
+          ((q : ReqNo) → HasNone generation (x.machines j) q → purpose_of sent q ≡ None) → IsBeside generation nodes target x.moves name moves sent → IsBeside generation nodes target later name moves sent
+      aside_stream j name differ plain moves sent known none (inr to_be) =
+          inr (record { absent = absent_on name w (here generation nodes target later) same_catalog (asks_others j name differ) to_be.absent; none_done = to_be.none_done; none_sent = to_be.none_sent })
+      aside_stream j name differ plain moves sent known none (inl stream) = inl (record {
+        there = catalog_stays w (here generation nodes target later) same_catalog name stream.there;
+        below =
+            told.below name (after_all Group generation moves) sent
+            (all_elsewhere generation range w i m_then l_then name differ (after_all Group generation moves) sent (alone_of (metadata_of range) refl) (alone_of (log_of range) refl) (alone_of (rows_of range) refl) (λ q at. known q (has_number generation new q at)) nodes target t.range t.job ps asked
+            (rows_else j sent none) stream.there) stream.below;
+      })
+        where
+          alone_of : (other : StreamName) → other.range ≡ range → (n m e : ℕ) → IsAt w other n e → IsUnsealedAt w name m e → ⊥
+          alone_of other of = below_alone generation name nodes target plain x.moves other (λ same. differ (sym (ap (λ (u : StreamName). u.range) same) ∙ of))
+
       aside_below : (j : ℕ) → (j ≡ range → ⊥) → AreBeside generation nodes target x.moves j (x.machines j) → AreBeside generation nodes target later j (x.machines j)
       aside_below j apart old = record {
         m_are = old.m_are;
         l_are = old.l_are;
         apart = old.apart;
-        metadata = λ some. aside_metadata (old.metadata some);
-        log = λ some. aside_log (old.log some);
+        metadata = λ some. aside_stream j (metadata_of j) apart (λ u. cc) (x.machines j).m (x.machines j).m_sent (λ q known. (none_elsewhere j apart q known).0) (λ q none. none.0) (old.metadata some);
+        log = λ some. aside_stream j (log_of j) apart (λ u. cc) (x.machines j).l (x.machines j).l_sent (λ q known. (none_elsewhere j apart q known).1) (λ q none. none.1) (old.log some);
       }
-        where
-          apart_name : (name other : StreamName) → (name.range ≡ other.range → ⊥) → other ≡ name → ⊥
-          apart_name name other differ e = differ (sym (ap (λ (u : StreamName). u.range) e))
-
-          metadata_alone : (other : StreamName) → (other ≡ metadata_of j → ⊥) → (n m e : ℕ) → IsAt w other n e → IsUnsealedAt w (metadata_of j) m e → ⊥
-          metadata_alone = below_alone generation (metadata_of j) nodes target (λ u. cc) x.moves
-
-          log_alone : (other : StreamName) → (other ≡ log_of j → ⊥) → (n m e : ℕ) → IsAt w other n e → IsUnsealedAt w (log_of j) m e → ⊥
-          log_alone = below_alone generation (log_of j) nodes target (λ u. cc) x.moves
-
-          -- nobody asks for it, where it is absent
-          asks_others : (name : StreamName) → (name.range ≡ range → ⊥) → AsksOthers name w (here generation nodes target later)
-          asks_others name differ server to body there =
-              elim (Contains-append_cases w.post ps (packet (Server server) to body) (subst (λ (u : StreamSystem). Contains u.post (packet (Server server) to body)) told.leads there)) [
-                | inl before ↦ inl before
-                | inr now ↦ inr (all_alone generation range w i m_then l_then name differ t.range t.job ps asked (rows_else j [] (λ q none. refl)) (packet (Server server) to body) now)
-              ]
-
-          still_absent : (name : StreamName) → (name.range ≡ range → ⊥) → IsAbsent name w → IsAbsent name (here generation nodes target later)
-          still_absent name differ absent = absent_on name w (here generation nodes target later) same_catalog (asks_others name differ) absent
-
-          aside_metadata : IsBeside generation nodes target x.moves (metadata_of j) (x.machines j).m (x.machines j).m_sent → IsBeside generation nodes target later (metadata_of j) (x.machines j).m (x.machines j).m_sent
-          aside_metadata (inr to_be) = inr (record { absent = still_absent (metadata_of j) apart to_be.absent; none_done = to_be.none_done; none_sent = to_be.none_sent })
-          aside_metadata (inl stream) = inl (record {
-            there = catalog_stays w (here generation nodes target later) same_catalog (metadata_of j) stream.there;
-            below =
-                told.below (metadata_of j) (after_all Group generation (x.machines j).m) (x.machines j).m_sent
-                (all_elsewhere generation range w i m_then l_then (metadata_of j) apart (after_all Group generation (x.machines j).m) (x.machines j).m_sent
-                (metadata_alone (metadata_of range) (apart_name (metadata_of j) (metadata_of range) apart)) (metadata_alone (log_of range) (apart_name (metadata_of j) (log_of range) apart))
-                (metadata_alone (rows_of range) (apart_name (metadata_of j) (rows_of range) apart))
-                (λ q known. (none_elsewhere j apart q (has_number generation new q known)).0) nodes target t.range t.job ps asked (rows_else j (x.machines j).m_sent (λ q none. none.0)) stream.there) stream.below;
-          })
-
-          aside_log : IsBeside generation nodes target x.moves (log_of j) (x.machines j).l (x.machines j).l_sent → IsBeside generation nodes target later (log_of j) (x.machines j).l (x.machines j).l_sent
-          aside_log (inr to_be) = inr (record { absent = still_absent (log_of j) apart to_be.absent; none_done = to_be.none_done; none_sent = to_be.none_sent })
-          aside_log (inl stream) = inl (record {
-            there = catalog_stays w (here generation nodes target later) same_catalog (log_of j) stream.there;
-            below =
-                told.below (log_of j) (after_all Group generation (x.machines j).l) (x.machines j).l_sent
-                (all_elsewhere generation range w i m_then l_then (log_of j) apart (after_all Group generation (x.machines j).l) (x.machines j).l_sent
-                (log_alone (metadata_of range) (apart_name (log_of j) (metadata_of range) apart)) (log_alone (log_of range) (apart_name (log_of j) (log_of range) apart))
-                (log_alone (rows_of range) (apart_name (log_of j) (rows_of range) apart))
-                (λ q known. (none_elsewhere j apart q (has_number generation new q known)).1) nodes target t.range t.job ps asked (rows_else j (x.machines j).l_sent (λ q none. none.1)) stream.there) stream.below;
-          })
 
       has_later : HasStreams (here generation nodes target later) range
       has_later =
@@ -593,16 +571,7 @@ module _ (generation : ℕ → ℕ) (nodes target : ℕ) where
       inc = with_one x.incarnation s range i
 
       own_one : (t u j n k : ℕ) → inc t j ≡ Some k → inc u n ≡ Some k → (t ≡ u) × (j ≡ n)
-      own_one t u j n k e f = elim (whose x.incarnation s range i t j k e) [
-        | inl here_t ↦ elim (whose x.incarnation s range i u n k f) [
-          | inl here_u ↦ (here_t.0 ∙ sym here_u.0, here_t.1 ∙ sym here_u.1)
-          | inr there_u ↦ (let a = alone u n (there_u ∙ ap Some (sym here_t.2)) in (here_t.0 ∙ sym a.0, here_t.1 ∙ sym a.1))
-        ]
-        | inr there_t ↦ elim (whose x.incarnation s range i u n k f) [
-          | inl here_u ↦ (let a = alone t j (there_t ∙ ap Some (sym here_u.2)) in (a.0 ∙ sym here_u.0, a.1 ∙ sym here_u.1))
-          | inr there_u ↦ x.own t u j n k there_t there_u
-        ]
-      ]
+      own_one = own_with_one x.incarnation s range i alone x.own
 
       below_one : (t j k : ℕ) → inc t j ≡ Some k → k < x.bound + suc i
       below_one t j k e = elim (whose x.incarnation s range i t j k e) [

@@ -54,7 +54,7 @@ building_stage (phases.Seal kind q) building = absurd building
 building_stage (phases.Keys side c) building = absurd building
 building_stage (phases.Complete q) building = absurd building
 
-saying_stage : (phase : SplitPhase) → IsSaying phase → stage_of phase ≡ 3
+pub saying_stage : (phase : SplitPhase) → IsSaying phase → stage_of phase ≡ 3
 saying_stage (phases.Keys side c) saying = refl
 saying_stage (phases.Begin q) saying = absurd saying
 saying_stage phases.Checkpoint saying = absurd saying
@@ -91,17 +91,17 @@ pub record AreBuilt (IsBuilt : ℕ → Type 0) (c : Cluster) : Type 0 where
   pub there : (child : ℕ) → IsIn c.stream_layer.catalog.stream (first_name child) → (child ≤ 1) ⊎ IsBuilt child
 
 module _ (c : Cluster) (k : KnowsSplits c) (x : ServerRun) (same : c.servers ≡ x.servers) where
-  job_at : (s range child : ℕ) (a : ChildAt x s range child) → JobAt c.servers s range a.job
+  pub job_at : (s range child : ℕ) (a : ChildAt x s range child) → JobAt c.servers s range a.job
   job_at s range child a = record { cell = a.cell; state = a.state; there = ap (λ l. entry_at l s) same ∙ a.there; runs = a.runs; found = a.found }
 
   come : (s range child : ℕ) (a : ChildAt x s range child) → 1 ≤ stage_of a.job.phase
   come s range child a = pair_stage a.job.phase a.pair
 
-  side_at : (s range child : ℕ) (a : ChildAt x s range child) → IsSide child a.job
+  pub side_at : (s range child : ℕ) (a : ChildAt x s range child) → IsSide child a.job
   side_at s range child a = side_is a.job a.side child a.is
 
   -- what may not be held is not
-  unheld_by : (child : ℕ) → (MayHold c k child → ⊥) → IsUnheld child x
+  pub unheld_by : (child : ℕ) → (MayHold c k child → ⊥) → IsUnheld child x
   unheld_by child none s cell st at up r found = none (held_assigned c k s cell st (ap (λ l. entry_at l s) same ∙ at) up child r found)
 
   pub are_children : (IsBuilt : ℕ → Type 0) → AreBuilt IsBuilt c → AreChildren IsBuilt x

@@ -317,7 +317,7 @@ pub record SplitsOwed (generation : ℕ → ℕ) (nodes target : ℕ) {base : Ba
       Owed generation nodes target c y x s cell st at is range r found job was (transact_rule st.context r from q changes)
   pub gets : (range : ℕ) (r : RangeState) (found : range_of st.ranges range ≡ Some r) (job : SplitJob) (was : split_of st.splits range ≡ Some job) (from : ActorId) (q : ReqNo) (key : List ℕ) →
       Owed generation nodes target c y x s cell st at is range r found job was (get_rule st.context r from q key)
-  pub answers : (range : ℕ) (r : RangeState) (found : range_of st.ranges range ≡ Some r) (job : SplitJob) (was : split_of st.splits range ≡ Some job) (p : Packet) → Contains c.stream_layer.post p → p.to ≡ Server s → (u : ReqNo) →
+  pub answers : (range : ℕ) (r : RangeState) (found : range_of st.ranges range ≡ Some r) (job : SplitJob) (was : split_of st.splits range ≡ Some job) (p : Packet) → Contains c.stream_layer.post p → p.to ≡ Server s → (u : ReqNo) → answered_number p.body ≡ Some u →
       Owed generation nodes target c y x s cell st at is range r found job was (answer_rule st.context r u p.body)
   pub hears : (range : ℕ) (r : RangeState) (found : range_of st.ranges range ≡ Some r) (job : SplitJob) (was : split_of st.splits range ≡ Some job) (p : Packet) → Contains c.stream_layer.post p → p.to ≡ Server s → (u : ReqNo) →
       answered_number p.body ≡ Some u → phase_awaits job.phase u ≡ true → OwedHearing generation nodes target c y x s cell st at is range r found job was p.body
@@ -337,7 +337,7 @@ pub none_owed : (generation : ℕ → ℕ) (nodes target : ℕ) {base : Bases ge
 none_owed generation nodes target c y x s cell st at is none = record {
   transacts = λ range r found job was from q changes. absurd (not_split st none range job was);
   gets = λ range r found job was from q key. absurd (not_split st none range job was);
-  answers = λ range r found job was p there to u. absurd (not_split st none range job was);
+  answers = λ range r found job was p there to u number. absurd (not_split st none range job was);
   hears = λ range r found job was p there to u number waits. absurd (not_split st none range job was);
 }
 

@@ -161,6 +161,20 @@ whose o s range i t j k e = go (t == s) (j == range) refl refl e
     go true false one two z = inr z
     go false b one two z = inr z
 
+-- each is of one range at one server, where it was, and the one that is had here is had nowhere else
+pub own_with_one : (o : ℕ → ℕ → Option ℕ) (s range i : ℕ) → ((t j : ℕ) → o t j ≡ Some i → (t ≡ s) × (j ≡ range)) → ((t u j n k : ℕ) → o t j ≡ Some k → o u n ≡ Some k → (t ≡ u) × (j ≡ n)) →
+    (t u j n k : ℕ) → with_one o s range i t j ≡ Some k → with_one o s range i u n ≡ Some k → (t ≡ u) × (j ≡ n)
+own_with_one o s range i alone own t u j n k e f = elim (whose o s range i t j k e) [
+  | inl here_t ↦ elim (whose o s range i u n k f) [
+    | inl here_u ↦ (here_t.0 ∙ sym here_u.0, here_t.1 ∙ sym here_u.1)
+    | inr there_u ↦ (let a = alone u n (there_u ∙ ap Some (sym here_t.2)) in (here_t.0 ∙ sym a.0, here_t.1 ∙ sym a.1))
+  ]
+  | inr there_t ↦ elim (whose o s range i u n k f) [
+    | inl here_u ↦ (let a = alone t j (there_t ∙ ap Some (sym here_u.2)) in (a.0 ∙ sym here_u.0, a.1 ∙ sym here_u.1))
+    | inr there_u ↦ own t u j n k there_t there_u
+  ]
+]
+
 -- ---- numbers and packets
 
 pub same_value : {A : Type 0} → (o : Option A) (a b : A) → o ≡ Some a → o ≡ Some b → b ≡ a

@@ -217,6 +217,7 @@ module _ (nodes target batch count : ℕ) where
       none_waits s range OfSeal q waits = none_split s range waits.0 waits.1
       none_waits s range OfCall q waits = none_split s range waits.0 waits.1
 
+  -- it stands before anything comes
   pub first_standing : Standing generation_at nodes target nothing (first_cluster nodes count target batch) (run_of batch count [])
   first_standing = first_stands.stands
 

@@ -19,10 +19,13 @@
 //! no higher generation than the split, and what is told of the two under higher ones (`NoteBounds`).
 //! The invariant stands beside splits too: each range at a server follows its streams and its split, whose requests are told apart by
 //! their numbers (`SplitRequests`, `RowSteps`), and the streams of two ranges may be built of its own (`BuiltRanges`). It stands on
-//! through each event of a run without merges, but for what is owed there (`ClusterEvents`: `EventOwes`; `SplitServers`: `SplitsOwed`,
-//! `LeavingOwed`), the appends of keys and that the range's blob stream is sealed among it. The logs of ranges that were built of each
-//! other stay one for what both had then (`SharedLogs`, `SharesInRuns`). Each split that is shown was one of a server that waited for
-//! its end (`EndedSplits`), and streams are built as splits wait for them (`BornSo`, `UntoldRanges`); so what is told of a run without
-//! merges replays, where nothing is owed of its events (`ToldRanges`, `SplitRuns`). That nothing is owed is not proved yet, and no
-//! contract uses these.
+//! through each event of a run without merges (`ServerPackets`, `ClusterEvents`), but for what is owed there (`SplitsOwed` and
+//! `LeavingOwed` of `SplitServers`). Of that is proved that the map's numbers for the two ranges of a split are other ones, from 1 on
+//! (`SplitNumbers`), that what servers know of their blob streams stays closed (`ClosedServers`), that the streams of what takes the
+//! place of others at the map are there (`CompletedSplits`), and that the tables which are shown lie within what was read
+//! (`BareRanges`). So `SplitRuns` owes no more than the appends of keys (`KeysOwed`, `KeysAgain` of `SplitsInRuns`) and that servers are
+//! told of closed blob streams (`AllTold`). The logs of ranges that were built of each other stay one for what both had then
+//! (`SharedLogs`, `SharesInRuns`). Each split that is shown was one of a server that waited for its end (`EndedSplits`), and streams are
+//! built as splits wait for them (`BornSo`, `UntoldRanges`). So what is told of a run without merges replays, where that is owed
+//! (`ToldRanges`, `SplitReplays`); it is not proved yet, and no contract uses it.
 #![tactic(auto)]

@@ -84,7 +84,7 @@ module _ (k : ℕ) where
         let b : SidesBeside k x (after_sides s g x sides) = sides_beside s g k x sides others in
         nothing_on (after_sides s g x sides) (λ kind. b.story (stream_named k kind) refl) b.shown b.answered
 
-    built_nothing : (source range : ℕ) → (range ≡ k → ⊥) → HasNothing k (built_streams source range x)
+    pub built_nothing : (source range : ℕ) → (range ≡ k → ⊥) → HasNothing k (built_streams source range x)
     built_nothing source range other =
         let apart : (k == range) ≡ false = other_test k range (λ e. other (sym e)) in
         nothing_on (built_streams source range x) (λ kind. ap (λ b. if b then own_or (x.story (stream_named k kind)) (x.story (stream_named source kind)) else x.story (stream_named k kind)) apart)
@@ -177,7 +177,7 @@ module _ (k : ℕ) where
           effect_nothing range r held (split_of st.splits range) refl effect ro later is_effect next
           (acted_one st next (laid.ascending s cell st at is) (laid.splits s cell st at is) range r held ro.after later left splits).split_here packets unused_then
 
-    step_nothing : (notes : List TableNote) (y : ServerRun) → RunStep IsAny IsAnyPair x notes y → IsUnused k y → HasNothing k y
+    pub step_nothing : (notes : List TableNote) (y : ServerRun) → RunStep IsAny IsAnyPair x notes y → IsUnused k y → HasNothing k y
     step_nothing notes y (Keeps servers packets like) unused_then = nothing_on x nothing y (λ kind. refl) refl refl
     step_nothing notes y (Passes servers like) unused_then = nothing_on x nothing y (λ kind. refl) refl refl
     step_nothing notes y (Turns s cell st at is e o turn) unused_then =
