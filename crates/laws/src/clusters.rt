@@ -1,21 +1,29 @@
 //! The laws of whole runs with servers and the map.
 
-ghost use Rattle.std.specs.Prelude.{ℕ, Bool, List};
+ghost use Rattle.std.specs.Prelude.{◌≡◌, ℕ, Bool, List, Some, Contains};
 ghost use Rattle.block_types.specs.declared.record.Nodes.{Nodes};
+ghost use Rattle.wire.specs.declared.actor.ActorId.{ActorId};
+ghost use Rattle.wire.specs.declared.actor.ActorId.TheVariants.{Map};
+ghost use Rattle.wire.specs.declared.body.Body.{Body};
 ghost use Rattle.wire.specs.declared.packet.Packet.{Packet};
 ghost use Rattle.model_streams.specs.Maps.{entry_at};
+ghost use Rattle.model_streams.specs.Outcome.{packet};
 ghost use Rattle.model_streams.specs.Honest.{Agree, Kept};
 ghost use Rattle.model_streams.specs.StreamSystem.{start};
 ghost use Rattle.model_streams.specs.declared.event.Event.{Event};
+ghost use Rattle.model_partition.specs.declared.range_entry.RangeEntry.{RangeEntry};
 ghost use Rattle.model_partition.specs.Honest.{Honest};
-ghost use Rattle.model_partition.specs.Past.{Bytes};
+ghost use Rattle.model_partition.specs.Map.{range_at};
+ghost use Rattle.model_partition.specs.Past.{Bytes, first_range};
 ghost use Rattle.model_partition.specs.Range.{RangeState};
 ghost use Rattle.model_histories.specs.ServedTables.{IsAtLine, ServesAt};
 ghost use Rattle.model_histories.specs.ServerRun.{log_name};
 ghost use Rattle.model_histories.specs.TableContents.{AllTellRightly};
 ghost use Rattle.model_partition.specs.Servers.{ArePlain, ServerCell, ShowsLoad, server_checkpoints, server_gives_up, server_loads, server_merges, server_splits, server_takes};
 ghost use Rattle.model_histories.specs.Story.{KeepsOrder};
-ghost use Rattle.model_partition.specs.Cluster.{AreUnsplit, Cluster, first_cluster, cluster_after, cluster_after_all};
+ghost use Rattle.model_partition.specs.Cluster.{AreUnmerged, Cluster, first_cluster, cluster_after, cluster_after_all};
+ghost use Rattle.laws_server_runs.specs.OwnKeys.{IsAtLineWithin};
+ghost use Rattle.laws_clusters.specs.Leases.{Lease, lease_in, KeepsTo};
 ghost use Rattle.laws_clusters.specs.Orders.{ComesOfStreams};
 ghost use Rattle.laws_clusters.specs.ServerEvents.{servers_of_run};
 ghost use Rattle.laws_servers.specs.Sending.{ByMoves, MaySendAll};
@@ -44,24 +52,43 @@ pub fn runs_are_moves()
 
 /// Whatever is asked, delivered, lost or repeated, whoever stops, comes back, gives up, makes checkpoints, splits a range or merges two,
 /// and whoever is assigned one, all that is shown of an extent agrees (`agree`), and what is acknowledged is kept where it was
-/// acknowledged (`kept`). Where no range is split and no two are merged what is observed is honest: each table that is shown is also that of a line of
-/// transactions that has every one that was acknowledged under a lower generation, in order, each once (`honest`). There the servers
+/// acknowledged (`kept`). Where no two ranges are merged what is observed is honest, whatever ranges are split: each table that is shown is
+/// also that of a line of transactions, within the keys that the splits left to its range, and the line has every one that was
+/// acknowledged under a lower generation of the range or of one that it was split from, in order, each once (`honest`). There the servers
 /// are those that what comes to them makes, and the streams that they see keep their order (`ordered`), so that the laws of servers
-/// over any streams are laws of runs: the tables of a range that is served, its indexes among them, are the table of the line that
-/// ends at its log position, over any texts that have all that was observed of extents (`served`).
+/// over any streams are laws of runs: the tables of a range that is served, its indexes among them, are within its keys the table of the
+/// line that ends at its log position, over any texts that have all that was observed of extents (`served`); those of the first range, which
+/// no split makes, are so for all keys (`served_first`).
 pub fn runs_are_honest()
     ensures agree { (nodes servers target batch : ℕ) (events : List Event) →
         Agree (cluster_after_all (first_cluster nodes servers target batch) events).stream_layer.notes }
     ensures kept { (nodes servers target batch : ℕ) (events : List Event) →
         Kept (cluster_after_all (first_cluster nodes servers target batch) events).stream_layer.notes }
-    ensures honest { (nodes servers target batch : ℕ) (events : List Event) → AreUnsplit events →
+    ensures honest { (nodes servers target batch : ℕ) (events : List Event) → AreUnmerged events →
         Honest (cluster_after_all (first_cluster nodes servers target batch) events).stream_layer.notes }
-    ensures ordered { (nodes servers target batch : ℕ) (events : List Event) → AreUnsplit events →
+    ensures ordered { (nodes servers target batch : ℕ) (events : List Event) → AreUnmerged events →
         ComesOfStreams (cluster_after_all (first_cluster nodes servers target batch) events) (servers_of_run nodes servers target batch events) }
-    ensures served { (nodes servers target batch : ℕ) (events : List Event) → AreUnsplit events →
+    ensures served { (nodes servers target batch : ℕ) (events : List Event) → AreUnmerged events →
         (texts : ℕ → Bytes) (s range : ℕ) (r : RangeState) →
         AllTellRightly texts (cluster_after_all (first_cluster nodes servers target batch) events).stream_layer.notes →
         ServesAt (servers_of_run nodes servers target batch events) s range r →
         (order : KeepsOrder ((servers_of_run nodes servers target batch events).story (log_name range))) →
-        IsAtLine texts ((servers_of_run nodes servers target batch events).story (log_name range)) order.copies r }
+        IsAtLineWithin texts ((servers_of_run nodes servers target batch events).story (log_name range)) order.copies r }
+    ensures served_first { (nodes servers target batch : ℕ) (events : List Event) → AreUnmerged events →
+        (texts : ℕ → Bytes) (s : ℕ) (r : RangeState) →
+        AllTellRightly texts (cluster_after_all (first_cluster nodes servers target batch) events).stream_layer.notes →
+        ServesAt (servers_of_run nodes servers target batch events) s first_range r →
+        (order : KeepsOrder ((servers_of_run nodes servers target batch events).story (log_name first_range))) →
+        IsAtLine texts ((servers_of_run nodes servers target batch events).story (log_name first_range)) order.copies r }
+{}
+
+/// The map keeps to each lease that it told a server of, by an assignment or a renewal, whatever comes, splits and merges of ranges and
+/// stops of the map among it: while the map has the range, its entry has the lease's generation and end or above; under the lease's own
+/// generation that server holds it; and where another server holds it, or none, the lease has ended.
+pub fn leases_are_kept()
+    ensures { (nodes servers target batch : ℕ) (events : List Event) → (to : ActorId) (body : Body) →
+        Contains (cluster_after_all (first_cluster nodes servers target batch) events).stream_layer.post (packet Map to body) →
+        (lease : Lease) → lease_in to body ≡ Some lease → (x : RangeEntry) →
+        range_at (cluster_after_all (first_cluster nodes servers target batch) events).map.ranges lease.range ≡ Some x →
+        KeepsTo lease (cluster_after_all (first_cluster nodes servers target batch) events).now x.generation x.until x.holder }
 {}

@@ -6,7 +6,7 @@
 //! - `extents`: what is shown of extents never disagrees, fences never fall, each answer tells what was so, lists only grow.
 //! - `tables`: the loads of a stream keep their order, and over such a log what is loaded replays.
 //! - `clusters`: a server asks only what servers may ask, each event of a run is moves of the stream layer, and what a run
-//!   without splits shows replays.
+//!   without merges shows replays.
 #![tactic(auto)]
 
 pub mod clusters;

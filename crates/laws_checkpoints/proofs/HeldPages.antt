@@ -24,7 +24,7 @@ use Rattle.model_partition.specs.PlaceReads.{is_place}
 use Rattle.model_histories.specs.TableContents.{value_in}
 use Rattle.laws_tables.specs.Layers.{over, flat, indexed}
 use Rattle.laws_tables.proofs.Layers.{pick}
-use Rattle.laws_checkpoints.specs.IndexLayers.{indexed_entries, index_entries, layer_at, content_of, contents_of, IsWritten, AreWritten}
+use Rattle.laws_checkpoints.specs.IndexLayers.{indexed_entries, index_entries, layer_at, content_of, contents_of, IsWritten}
 use Rattle.model_histories.specs.IndexContents.{bytes_in}
 use Rattle.laws_checkpoints.specs.ShownTables.{IsInstalled, AreInstalled, IsSearchable, AreSearchable, AreWrittenByKey, HoldsBytes, IsIndexAnswer, IsAnswer, LookupSaysLayers, LookSaysLayers, GetSaysLayers}
 use Rattle.laws_checkpoints.proofs.Checkpoints.{known_of, known_first, contents_say}
@@ -43,10 +43,6 @@ same_place a b e =
 
 module _ (texts : ℕ → Bytes) where
   -- ---- what is installed of what was written
-
-  pub by_key_written : (named : List IndexRange) → AreWrittenByKey texts named → AreWritten texts named
-  by_key_written [] written = tt
-  by_key_written (x ∷ older) ((index, entries, written, filed), others) = ((index, entries, written), by_key_written older others)
 
   index_searchable : (x : InstalledIndex) (named : IndexRange) (index : Index) (entries : Entries) → IsInstalled texts x named → IsWritten texts index entries named.place →
       AreFiled index.pages (pages_of entries) → IsSearchable texts x.index

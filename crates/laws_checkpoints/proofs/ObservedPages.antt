@@ -2,16 +2,11 @@
 use Rattle.std.proofs.Common.{◌≡◌, ℕ, List, [], ◌∷◌, Option, Some, None, refl, sym, ◌∙◌}
 use Rattle.wire.specs.declared.note.Note.{Note}
 use Rattle.memtable.specs.declared.cell.Place.{Place}
-use Rattle.memtable.specs.Entries.{Entries}
-use Rattle.checkpoint_format.specs.declared.index.PageAt.{PageAt}
-use Rattle.checkpoint.specs.Pages.{IsSourceOf}
 use Rattle.model_partition.specs.Past.{Bytes}
 use Rattle.model_partition.specs.Servers.{shown_in, first_shown, or_later}
 use Rattle.model_histories.specs.TableContents.{AllTellRightly}
 use Rattle.laws_loads.proofs.Rows.{shown_rightly}
-use Rattle.laws_checkpoints.specs.IndexLayers.{PagesStand}
 use Rattle.model_histories.specs.IndexContents.{bytes_in}
-use Rattle.laws_checkpoints.proofs.WrittenIndexes.{pages_from}
 
 module _ (texts : ℕ → Bytes) where
   -- what the earliest observation of a place shows is what stands there
@@ -26,8 +21,3 @@ module _ (texts : ℕ → Bytes) where
           let same : value ≡ bytes = cc in
           sym (shown_rightly texts note place value right.0 here) ∙ same
       by None here e more = more e
-
-  -- so the observations have, of the pages that were written, nothing but their bytes
-  pub pages_seen : (notes : List Note) (at : List PageAt) (pages : List Entries) → AllTellRightly texts notes → PagesStand texts at pages →
-      IsSourceOf (first_shown notes) at pages
-  pages_seen notes at pages right stand = pages_from texts (first_shown notes) (λ place bytes seen. first_seen notes place bytes right seen) at pages stand

@@ -9,7 +9,6 @@ use Rattle.std.proofs.lemmas.List.Concat.{flat_map-cons}
 use Rattle.wire.specs.declared.note.Note.{Note}
 use Rattle.memtable.specs.declared.cell.Cell.{Cell}
 use Rattle.memtable.specs.declared.cell.Cell.TheVariants.{Deleted, Inline, Placed}
-use Rattle.memtable.specs.declared.cell.Place.{Place}
 use Rattle.memtable.specs.Entries.{Entries, key_cmp, found, put_all, latest}
 use Rattle.metadata.specs.declared.record.IndexRange.{IndexRange}
 use Rattle.metadata.specs.declared.record.KeyRange.{KeyRange}
@@ -23,12 +22,12 @@ use Rattle.model_partition.specs.declared.shown_table.ShownTable.{ShownTable}
 use Rattle.model_partition.specs.Past.{Bytes, stored}
 use Rattle.model_partition.specs.Servers.{entries_if, entries_shown_in, page_shown, index_shown, entries_shown, rows_of}
 use Rattle.model_histories.specs.TableContents.{AllTellRightly, value_of, table_in}
-use Rattle.laws_loads.proofs.Rows.{Later, Ordered, ordered_put, IsCovered, first_rightly, AreShown, rows_say}
+use Rattle.laws_loads.proofs.Rows.{Later, Ordered, ordered_put, AreShown, rows_say}
 use Rattle.laws_tables.specs.Layers.{flat, indexed}
 use Rattle.laws_tables.proofs.Layers.{pick, pick_none}
 use Rattle.laws_loads.specs.MemoryLayers.{layer_in}
 use Rattle.laws_checkpoints.specs.IndexLayers.{indexed_entries, index_entries, layer_at, content_of, contents_of, AreWritten}
-use Rattle.model_histories.specs.IndexContents.{bytes_in, page_in, pages_in}
+use Rattle.model_histories.specs.IndexContents.{page_in, pages_in}
 use Rattle.laws_checkpoints.specs.ShownTables.{IsSeen, ArePagesSeen, AreSeen, AreValuesSeen, IsInstalled, AreInstalled, AreAscending, RowsSayLayers, RowsSayMemory, RowsShowLayers}
 use Rattle.laws_checkpoints.proofs.Checkpoints.{known_of, known_first, merged_says}
 use Rattle.laws_checkpoints.proofs.ObservedPages.{first_seen}
@@ -84,17 +83,6 @@ module _ (texts : ℕ → Bytes) where
   -- indexes that were written say keys in order
   pub written_ascending : (named : List IndexRange) → AreWritten texts named → AreAscending texts named
   written_ascending named written = contents_ascending texts (contents_of texts named) (contents_written texts named written)
-
-  -- a place that some observation shows is seen
-  pub covered_seen : (notes : List Note) (place : Place) → AllTellRightly texts notes → IsCovered texts notes place → IsSeen notes place
-  covered_seen notes place right some = (bytes_in texts place, first_rightly texts notes place right some)
-
-  -- values that are shown as they stand are seen
-  pub shown_seen : (notes : List Note) (es : Entries) → AreShown texts notes es → AreValuesSeen notes es
-  shown_seen notes [] shown = tt
-  shown_seen notes ((key, Deleted) ∷ es) shown = shown_seen notes es shown
-  shown_seen notes ((key, Inline value) ∷ es) shown = shown_seen notes es shown
-  shown_seen notes ((key, Placed place) ∷ es) shown = ((bytes_in texts place, shown.0), shown_seen notes es shown.1)
 
   -- ---- pages and values that were seen
 

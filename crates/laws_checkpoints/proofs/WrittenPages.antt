@@ -147,14 +147,6 @@ module _ (texts : ℕ → Bytes) where
 
 -- ---- the group that is appended next
 
--- a group has the next pages
-pub next_group_is : (p : PagesState) (group : groups.Group) → next_group p ≡ Some group → group ≡ page_group (next_pages p)
-next_group_is p group is = by (length p.unwritten == 0) is
-  where
-    by : (b : Bool) → (if b then None else Some (page_group (next_pages p))) ≡ Some group → group ≡ page_group (next_pages p)
-    by true e = absurd cc
-    by false e = cc
-
 -- where there is none, no page is left
 pub none_unwritten : (p : PagesState) → next_group p ≡ None → p.unwritten ≡ []
 none_unwritten p none = by (length p.unwritten == 0) refl none

@@ -12,7 +12,7 @@ use Rattle.wire.specs.declared.packet.Packet.{Packet}
 use Rattle.wire.specs.declared.refusal.Refusal.{Refusal}
 use Rattle.metadata.specs.declared.record.KeyRange.{KeyRange}
 use Rattle.model_streams.specs.declared.event.Event.{Event}
-use Rattle.model_streams.specs.declared.event.Event.TheVariants.{Submit, Deliver, Stop, Restart, Decide, GiveUp, Assign, Renew, Moment, Checkpoint, Split, Merge}
+use Rattle.model_streams.specs.declared.event.Event.TheVariants.{Deliver, Assign, Renew}
 use Rattle.model_streams.specs.Outcome.{Outcome}
 use Rattle.model_streams.proofs.Tests.{if_elim}
 use Rattle.model_partition.specs.declared.pending.Pending.{Pending}
@@ -207,15 +207,7 @@ module _ (n g : ℕ) where
       leaves (Deliver number) = λ p at. map_leaves c.map a p p.body
       leaves (Assign range server until) = assign_leaves c.map a range server until (range_at c.map.ranges range)
       leaves (Renew range server until) = λ free. renew_leaves c.map a range server until (range_at c.map.ranges range)
-      leaves (Submit user to body) = tt
-      leaves (Stop actor call keep) = tt
-      leaves (Restart actor) = tt
-      leaves (Decide e) = tt
-      leaves (GiveUp server range pick) = tt
-      leaves (Moment now) = tt
-      leaves (Checkpoint server range combine) = tt
-      leaves (Split server range key) = tt
-      leaves (Merge server left right) = tt
+      leaves event = tt
 
 -- ---- the split that makes it
 

@@ -161,3 +161,19 @@ module _ (generation : ℕ → ℕ) (name : StreamName) (nodes target : ℕ) (mo
     -- it is acknowledged where it stands
     pub split_acked : (e offset : ℕ) → (reply_rule (picking d r.metadata) (request d) body).news ≡ Some (news.Appended e offset) → Splits e offset
     split_acked = appended_tells Splits (picking d r.metadata) (request d) body sent_splits
+
+  -- ---- the keys of a range that a split makes
+
+  module _ (c : ClientState) (told : IsTold generation name w i (stand_of generation whole i) sent c) (serves : ServesBy generation name w i (stand_of generation whole i) sent c c.job) (d : ServerContext) (from : ActorId) (server : ℕ) (body : Body)
+      (there : Contains w.post (packet from (Server server) body)) (means : Means generation name w whole.state sent body) where
+    abbrev Keys : ℕ → ℕ → Type 0
+    Keys e offset = Contains w.notes (Acked e offset c.group)
+
+    sent_keys : (e : ℕ) (q v : ReqNo) (n offset : ℕ) → c.job ≡ jobs.Sent e q → is_same q v ≡ true → body ≡ bodies.Append (appends.Appended v n offset) → Keys e offset
+    sent_keys e q v n offset at same is =
+        let sent_is : SentIs generation name w i (stand_of generation whole i) sent c e q = subst (λ j. ServesBy generation name w i (stand_of generation whole i) sent c j) at serves in
+        acked c told e q sent_is v n offset same from server (subst (λ b. Contains w.post (packet from (Server server) b)) is there) (subst (λ b. Means generation name w whole.state sent b) is means)
+
+    -- what its client appends is acknowledged where it stands
+    pub client_acked : (e offset : ℕ) → (reply_rule (picking d c) (request d) body).news ≡ Some (news.Appended e offset) → Keys e offset
+    client_acked = appended_tells Keys (picking d c) (request d) body sent_keys

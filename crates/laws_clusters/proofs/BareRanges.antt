@@ -1,17 +1,16 @@
 -- Until a server may hold a range whose streams are not there, nothing of it was shown or answered; so the tables that servers show lie within
 -- what their streams showed and answered.
-use Rattle.std.proofs.Common.{◌≡◌, ℕ, zero, suc, ◌≤◌, Option, Some, None, List, [], ◌∷◌, ◌++◌, refl, sym, ap, ◌∙◌, subst, inl, inr, arith}
-use Rattle.wire.specs.declared.streams.Modify.{Modify}
-use Rattle.streams.specs.Streams.{Stream, stream_of}
+use Rattle.std.proofs.Common.{◌≡◌, ℕ, Some, None, List, [], ◌∷◌, ◌++◌, refl, sym, ◌∙◌, subst, inl, inr, arith}
+use Rattle.streams.specs.Streams.{stream_of}
 use Rattle.model_streams.specs.declared.event.Event.{Event}
-use Rattle.model_partition.specs.Cluster.{Cluster, IsUnmerged, AreUnmerged, cluster_after, cluster_after_all, first_cluster}
+use Rattle.model_partition.specs.Cluster.{Cluster, IsUnmerged, AreUnmerged, cluster_after, first_cluster}
 use Rattle.model_partition.specs.Past.{Bytes}
-use Rattle.model_partition.specs.Splits.{all_streams}
+use Rattle.model_histories.specs.ServedTables.{StreamsInOrder}
 use Rattle.model_histories.specs.ServerRun.{ServerRun, ServerEvent, Takes, GivesUp, Checkpoints, Splits, Stops, Starts, Moment, Builds, run_of, after_event}
 use Rattle.laws_map.proofs.SplitFacts.{KnowsSplits, MayHold, event_knows, event_may, first_knows, asked_apart, first_of, split_there}
 use Rattle.laws_map.proofs.ManagerBirths.{IsIn}
-use Rattle.laws_map.proofs.EventStays.{event_stays}
-use Rattle.laws_server_runs.specs.ChildInvariant.{AreBornSo, ChildAt, IsSaying, IsBuiltBy}
+use Rattle.laws_server_runs.specs.ChildInvariant.{AreBornSo}
+use Rattle.laws_server_runs.specs.Places.{TablesWithin, bytes_of}
 use Rattle.laws_server_runs.specs.Turns.{outcome_of}
 use Rattle.laws_server_runs.proofs.ChildTheorem.{AllInOrder, all_children, order_before}
 use Rattle.laws_server_runs.proofs.LaidRuns.{all_laid}
@@ -20,11 +19,12 @@ use Rattle.laws_server_runs.proofs.RunSteps.{IsAny, IsAnyPair, any_assigned, any
 use Rattle.laws_server_runs.proofs.Unmerged.{unmerged}
 use Rattle.laws_server_runs.proofs.UntouchedRanges.{IsUnused, HasNothing, built_nothing, step_nothing}
 use Rattle.laws_clusters.specs.ServerEvents.{server_events, server_events_after}
-use Rattle.laws_clusters.proofs.BornSo.{run_born_so}
+use Rattle.laws_clusters.proofs.BornSo.{absent_before, run_born_so}
 use Rattle.laws_clusters.proofs.BuiltInRuns.{TakesList, EventKind, Quiet, OfServers, OfList, event_kind}
 use Rattle.laws_clusters.proofs.ServerRules.{IsLaid}
 use Rattle.laws_clusters.proofs.ShownNotes.{event_goes}
 use Rattle.laws_clusters.proofs.SplitPremises.{first_name, saying_stage, job_at, side_at, unheld_by, new_may}
+use Rattle.laws_clusters.proofs.SideFacts.{run_aside}
 use Rattle.laws_clusters.proofs.UntoldRanges.{stays_untold}
 
 -- ---- a range that nobody has, and whose streams are not there
@@ -76,11 +76,7 @@ module _ (batch count : ℕ) (c : Cluster) (k : KnowsSplits c) (coming : List Se
       not_in (z, is) = let e : None ≡ Some z = sym absent ∙ is in cc
 
       was_absent : stream_of c.stream_layer.catalog.stream (first_name n) ≡ None
-      was_absent = go (stream_of c.stream_layer.catalog.stream (first_name n)) refl
-        where
-          go : (o : Option Stream) → stream_of c.stream_layer.catalog.stream (first_name n) ≡ o → o ≡ None
-          go None is = refl
-          go (Some z) is = absurd (not_in (event_stays c event (first_name n) (z, is)))
+      was_absent = absent_before c event (first_name n) absent
 
       before : HasNothing n x
       before = old n was_none was_absent
@@ -135,8 +131,12 @@ born_stays texts batch count (event ∷ earlier) born order fresh = (
 
 -- IN EVERY RUN WITHOUT MERGES THE TABLES THAT SERVERS SHOW LIE WITHIN WHAT THEIR STREAMS SHOWED
 pub run_laid : (nodes servers target batch : ℕ) (events : List Event) → AreUnmerged events → IsLaid (run_of batch servers (server_events_after (first_cluster nodes servers target batch) [] events))
-run_laid nodes servers target batch events are texts order =
-    let coming : List ServerEvent = server_events_after (first_cluster nodes servers target batch) [] events in
-    let fresh : AllFresh batch servers coming =
-    led_fresh batch servers events are (first_cluster nodes servers target batch) (first_knows nodes servers target batch) [] refl (λ n none absent. record { story = λ kind. refl; shown = refl; answered = refl }) tt in
-    (all_within texts batch servers coming (born_stays texts batch servers coming (run_born_so texts nodes servers target batch events are (stays_untold texts batch servers)) order fresh) order).tables
+run_laid nodes servers target batch events are = record { within = within; aside = run_aside nodes servers target batch events are }
+  where
+    within : (texts : ℕ → Bytes) → ((range : ℕ) → StreamsInOrder texts range (run_of batch servers (server_events_after (first_cluster nodes servers target batch) [] events))) →
+        TablesWithin texts (bytes_of (run_of batch servers (server_events_after (first_cluster nodes servers target batch) [] events))) (run_of batch servers (server_events_after (first_cluster nodes servers target batch) [] events)).notes
+    within texts order =
+        let coming : List ServerEvent = server_events_after (first_cluster nodes servers target batch) [] events in
+        let fresh : AllFresh batch servers coming =
+        led_fresh batch servers events are (first_cluster nodes servers target batch) (first_knows nodes servers target batch) [] refl (λ n none absent. record { story = λ kind. refl; shown = refl; answered = refl }) tt in
+        (all_within texts batch servers coming (born_stays texts batch servers coming (run_born_so texts nodes servers target batch events are (stays_untold texts batch servers)) order fresh) order).tables

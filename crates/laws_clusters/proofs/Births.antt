@@ -531,7 +531,7 @@ first_births nodes servers target batch = record { sound = first_sound; above = 
 pub run_births : (nodes servers target batch : ℕ) (events : List Event) → Births (cluster_after_all (first_cluster nodes servers target batch) events)
 run_births nodes servers target batch events = all_births events (first_cluster nodes servers target batch) (first_births nodes servers target batch)
 
--- So each split that is shown makes two children of its range.
+-- So each split that is shown makes two children of its range,
 pub run_children : (nodes servers target batch : ℕ) (events : List Event) (before later : List Note) (parent low high : ℕ) (key : List ℕ) →
     table_notes (cluster_after_all (first_cluster nodes servers target batch) events).stream_layer.notes ≡ before ++ notes.Split parent low high key ∷ later →
     IsChild (table_notes (cluster_after_all (first_cluster nodes servers target batch) events).stream_layer.notes) parent low
@@ -539,3 +539,8 @@ pub run_children : (nodes servers target batch : ℕ) (events : List Event) (bef
 run_children nodes servers target batch events before later parent low high key is =
     let c : Cluster = cluster_after_all (first_cluster nodes servers target batch) events in
     born_children c.map (table_notes c.stream_layer.notes) before later parent low high key (run_births nodes servers target batch events).born is
+
+-- and none makes the first range.
+pub run_first_unborn : (nodes servers target batch : ℕ) (events : List Event) →
+    HasNoBirth first_range (table_notes (cluster_after_all (first_cluster nodes servers target batch) events).stream_layer.notes)
+run_first_unborn nodes servers target batch events = (run_births nodes servers target batch events).first.unborn

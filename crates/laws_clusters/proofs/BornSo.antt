@@ -1,6 +1,6 @@
 -- What comes to the servers of a run without merges builds streams as is premised of the two ranges of a split, and at each moment these are so; where
 -- nothing is done with a range's streams, and nothing told of it, until it may be held.
-use Rattle.std.proofs.Common.{◌≡◌, ◌⊎◌, ℕ, zero, suc, Bool, true, false, ◌==◌, List, [], ◌∷◌, ◌++◌, Option, Some, None, Contains, refl, sym, ap, ◌∙◌, subst, inl, inr, arith, if◌then◌else◌}
+use Rattle.std.proofs.Common.{◌≡◌, ℕ, Bool, true, false, ◌==◌, List, [], ◌∷◌, ◌++◌, Option, Some, None, Contains, refl, sym, ap, ◌∙◌, subst, inl, inr, arith, if◌then◌else◌}
 use Rattle.std.proofs.lemmas.Bool.{eqb-true}
 use Rattle.wire.specs.declared.note.Note.{Note}
 use Rattle.wire.specs.declared.actor.ActorId.TheVariants.{Server}
@@ -11,7 +11,7 @@ use Rattle.streams.specs.Streams.{Stream, stream_of}
 use Rattle.model_streams.specs.declared.event.Event.{Event}
 use Rattle.model_streams.specs.Maps.{entry_at}
 use Rattle.model_partition.specs.Past.{Bytes}
-use Rattle.model_partition.specs.Server.{ServerState, range_of}
+use Rattle.model_partition.specs.Server.{ServerState}
 use Rattle.model_partition.specs.Servers.{ServerCell}
 use Rattle.model_partition.specs.Cluster.{Cluster, IsUnmerged, AreUnmerged, cluster_after, first_cluster}
 use Rattle.model_histories.specs.Log.{only}
@@ -22,7 +22,7 @@ use Rattle.laws_map.proofs.StagesStand.{AsksBuild}
 use Rattle.laws_map.proofs.ManagerBirths.{IsIn}
 use Rattle.laws_map.proofs.EventStays.{event_stays}
 use Rattle.laws_map.proofs.SplitFacts.{KnowsSplits, IsSide, MayHold, event_knows, event_may, first_knows, asked_apart}
-use Rattle.laws_server_runs.specs.ChildInvariant.{AreChildren, IsBuildOf, IsBuiltBy, IsUntouched, MayBuild, BuildsSo, AreBornSo}
+use Rattle.laws_server_runs.specs.ChildInvariant.{AreChildren, IsBuildOf, IsBuiltBy, MayBuild, BuildsSo, AreBornSo}
 use Rattle.laws_clusters.specs.ServerEvents.{server_events, server_events_after}
 use Rattle.laws_clusters.proofs.ShownNotes.{event_goes}
 use Rattle.laws_clusters.proofs.SplitPremises.{first_name, AreBuilt, are_children, new_may, new_held, new_asked}
@@ -55,6 +55,14 @@ built_story source range x n kind apart = go (n == range) refl
     go true e = absurd (apart (eqb-true n range e))
     go false e = ap (λ u. if u then own_or (x.story (stream_named n kind)) (x.story (stream_named source kind)) else x.story (stream_named n kind)) e
 
+-- a stream that is not there after an event was not there before it
+pub absent_before : (c : Cluster) (event : Event) (name : StreamName) → stream_of (cluster_after c event).stream_layer.catalog.stream name ≡ None → stream_of c.stream_layer.catalog.stream name ≡ None
+absent_before c event name absent = go (stream_of c.stream_layer.catalog.stream name) refl
+  where
+    go : (o : Option Stream) → stream_of c.stream_layer.catalog.stream name ≡ o → o ≡ None
+    go None is = refl
+    go (Some z) is = let there = event_stays c event name (z, is) in let e : None ≡ Some there.0 = sym absent ∙ there.1 in absurd cc
+
 -- each event leaves the stories of what nobody may hold empty
 pub story_on : (batch count : ℕ) (c : Cluster) (k : KnowsSplits c) (coming : List ServerEvent) → c.servers ≡ (run_of batch count coming).servers → (event : Event) (unmerged : IsUnmerged event) →
     ((n : ℕ) → (MayHold c k n → ⊥) → stream_of c.stream_layer.catalog.stream (first_name n) ≡ None → (kind : StreamKind) → (run_of batch count coming).story (stream_named n kind) ≡ []) →
@@ -68,11 +76,7 @@ story_on batch count c k coming same event unmerged old n none absent kind = by 
     not_in (z, is) = let e : None ≡ Some z = sym absent ∙ is in cc
 
     was_absent : stream_of c.stream_layer.catalog.stream (first_name n) ≡ None
-    was_absent = go (stream_of c.stream_layer.catalog.stream (first_name n)) refl
-      where
-        go : (o : Option Stream) → stream_of c.stream_layer.catalog.stream (first_name n) ≡ o → o ≡ None
-        go None is = refl
-        go (Some z) is = absurd (not_in (event_stays c event (first_name n) (z, is)))
+    was_absent = absent_before c event (first_name n) absent
 
     before : (run_of batch count coming).story (stream_named n kind) ≡ []
     before = old n was_none was_absent kind

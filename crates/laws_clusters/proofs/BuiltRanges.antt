@@ -6,6 +6,7 @@ use Rattle.wire.specs.declared.actor.ActorId.TheVariants.{Server}
 use Rattle.wire.specs.declared.body.Body.TheVariants as bodies
 use Rattle.wire.specs.declared.body.StreamBody.TheVariants.{MultiModify}
 use Rattle.wire.specs.declared.streams.Modify.{Modify}
+use Rattle.wire.specs.declared.streams.Source.{Source}
 use Rattle.wire.specs.declared.streams.StreamKind.{StreamKind}
 use Rattle.wire.specs.declared.streams.StreamKind.TheVariants as kinds
 use Rattle.wire.specs.declared.streams.StreamName.{StreamName}
@@ -16,25 +17,27 @@ use Rattle.model_streams.specs.Maps.{changed}
 use Rattle.model_streams.specs.Outcome.{packet}
 use Rattle.model_streams.specs.StreamSystem.{StreamSystem, happens}
 use Rattle.model_partition.specs.Cluster.{Cluster}
+use Rattle.model_partition.specs.declared.split_job.Side.{Side as SplitSide}
 use Rattle.model_partition.specs.declared.split_job.SplitJob.{SplitJob}
-use Rattle.model_partition.specs.Splits.{built_stream, all_streams}
+use Rattle.model_partition.specs.Splits.{built_stream, all_streams, side_range}
 use Rattle.model_histories.specs.ServerRun.{ServerRun, ServerEvent, Builds, own_or, stream_named, log_name, after_event}
 use Rattle.model_histories.specs.ServerRun as runs
 use Rattle.model_histories.specs.Story.{Story}
 use Rattle.model_histories.specs.ServerTurns.{after_all}
 use Rattle.model_histories.specs.ServerTurns as machine
-use Rattle.laws_stream_machine.specs.Refinement.{Sent, IsThere}
+use Rattle.laws_stream_machine.specs.Refinement.{Sent, IsThere, extents_of, extents_in}
 use Rattle.laws_stream_machine.proofs.LowerLayer as layer
 use Rattle.laws_streams.proofs.Choices.{Each, each-contains, contains_get}
 use Rattle.laws_streams.proofs.ListRules.{IsBuiltOf}
 use Rattle.laws_ranges.specs.Serves.{metadata_of, log_of}
 use Rattle.laws_clusters.specs.ServerEvents.{built_events}
 use Rattle.laws_clusters.proofs.BuildEvents.{built_in, Takes, BuildsNow}
-use Rattle.laws_clusters.proofs.Invariant.{Machines, IsToBe, IsStream, IsBeside, there_below, absent_to_be, here, Standing, Bases}
+use Rattle.laws_clusters.proofs.Invariant.{SplitAt, IsMaking, Machines, IsToBe, IsStream, IsBeside, there_below, absent_to_be, here, Standing, Bases}
 use Rattle.laws_clusters.proofs.RangeStreams.{HasStreams, IsOfSplit}
 use Rattle.laws_clusters.proofs.SharedLogs.{SharesLog, two_builds}
+use Rattle.laws_clusters.proofs.SplitNews.{BuildsSide, BuildsOfSplits}
 use Rattle.laws_clusters.proofs.StreamFates.{event_stays, event_builds, nobody_asks, copy_below}
-use Rattle.laws_clusters.proofs.StreamLayerSteps.{IsBuiltRun, later, has_here, one, Unbuilt, gone_on, gone_beside, BuildsSides, next_machines, sides_share, event_machines, event_stands}
+use Rattle.laws_clusters.proofs.StreamLayerSteps.{IsBuiltRun, later, has_here, there_in, there_here, one, Unbuilt, gone_on, gone_beside, BuildsSides, BringsSides, next_machines, sides_share, event_machines, event_stands}
 
 -- ---- the run of the servers
 
@@ -160,6 +163,11 @@ all_entries job = (one kinds.Metadata, (one kinds.Log, (one kinds.RowData, (one 
     two : (kind : StreamKind) → IsEntry job (built_stream job job.high kind)
     two kind = record { side = inr refl; source = refl }
 
+-- the range of the first source
+head_range : List Source → ℕ
+head_range [] = 0
+head_range (source ∷ sources) = source.stream.range
+
 same_number : (n : ℕ) → (n == n) ≡ true
 same_number n = grind (arith, nat_tests)
 
@@ -206,7 +214,7 @@ module _ (job : SplitJob) where
 
 -- ---- the cluster
 
-module _ (generation : ℕ → ℕ) (nodes target : ℕ) {base : Bases generation} (c : Cluster) (y : ServerRun) (x : Standing generation nodes target base c y) (event : Event) where
+module _ (generation : ℕ → ℕ) (nodes target : ℕ) {base : Bases generation} (c : Cluster) (y : ServerRun) (x : Standing generation nodes target base c y) (event : Event) (news : BuildsOfSplits c event) where
   abbrev w : StreamSystem
   w = here generation nodes target x.moves
 
@@ -225,6 +233,14 @@ module _ (generation : ℕ → ℕ) (nodes target : ℕ) {base : Bases generatio
   none_there : (u : StreamSystem) (name : StreamName) → stream_of u.catalog.stream name ≡ None → IsThere u name → ⊥
   none_there u name none (z, is) = let c : None ≡ Some z = sym none ∙ is in cc
 
+  -- what is so of the metadata of the two ranges of a split where it comes to be there
+  news_here : (s k : ℕ) (job : SplitJob) → SplitAt c.servers s k job → IsMaking job.phase → (side : SplitSide) → IsThere v (metadata_of (side_range job side)) →
+      IsThere w (metadata_of (side_range job side)) ⊎ BuildsSide c.stream_layer event k job side
+  news_here s k job split making side there = elim (news s k job split making side (there_in generation nodes target c y x event (metadata_of (side_range job side)) there)) [
+    | inl old ↦ inl (there_here generation nodes target c y x event (metadata_of (side_range job side)) old)
+    | inr builds ↦ inr builds
+  ]
+
   -- an event that builds nothing
   pub happens_stands : built_in c.stream_layer event ≡ [] → Next y
   happens_stands none =
@@ -236,9 +252,11 @@ module _ (generation : ℕ → ℕ) (nodes target : ℕ) {base : Bases generatio
         none_done = λ j is. absurd cc;
         metadata = λ j is. absurd cc;
         log = λ j is. absurd cc;
+        same_list = λ j is. absurd cc;
       })
       y
       (record { servers = refl; history = λ s range. refl; notes = refl; kept = λ name is. refl; built = λ name is. absurd cc; shown = λ range. inl refl; answered = λ range. inl refl })
+      (λ s k job split making side there. elim (news_here s k job split making side there) [ inl old ↦ inl old | inr builds ↦ absurd (none_among (built_in c.stream_layer event) none builds.entry builds.among) ])
 
   -- one that builds the streams of a split
   module _ (job : SplitJob) (list_is : built_in w event ≡ all_streams job) (counted : 1 ≤ job.range) (side_numbers : (1 ≤ job.low) × (1 ≤ job.high)) (streams : HasStreams w job.range) (takes : Takes w (built_in w event) v) where
@@ -304,6 +322,14 @@ module _ (generation : ℕ → ℕ) (nodes target : ℕ) {base : Bases generatio
                 (nobody_asks generation nodes target x.moves event (one generation nodes target c y x event) (stream_named j kind) (to_be old old_sent beside).absent.nobody);
           }
 
+    -- it has the extents of the parent's
+    same_extents : (kind : StreamKind) → (kind ≡ kinds.Metadata) ⊎ (kind ≡ kinds.Log) → (j : ℕ) → sides job j ≡ true → extents_in v (stream_named j kind) ≡ extents_in v (stream_named job.range kind)
+    same_extents kind of j side =
+        let (z, there) = now.there (entry kind of j side) (among kind of j side) in
+        let from : IsBuiltOf w.catalog (stream_named job.range kind) z = built_of kind of j side z there in
+        let parent : stream_of v.catalog.stream (stream_named job.range kind) ≡ Some from.list = takes.kept (stream_named job.range kind) from.list from.there in
+        ap extents_of there ∙ from.same ∙ sym (ap extents_of parent)
+
     -- the parent's machines after the event
     parent_there : (kind : StreamKind) → IsThere v (stream_named job.range kind)
     parent_there kind = event_stays generation nodes target x.moves event (one generation nodes target c y x event) (stream_named job.range kind) (streams kind)
@@ -317,7 +343,7 @@ module _ (generation : ℕ → ℕ) (nodes target : ℕ) {base : Bases generatio
         record {
           metadata_unbuilt = λ j none. unbuilt j none kinds.Metadata;
           log_unbuilt = λ j none. unbuilt j none kinds.Log;
-          absent = λ j side has. none_there w (metadata_of j) (absent kinds.Metadata (inl refl) j side) (has kinds.Metadata);
+          absent = λ j side has. none_there w (metadata_of j) (absent kinds.Metadata (inl refl) j side) has;
           none_done = λ j side. (
             (to_be kinds.Metadata (inl refl) j side (x.machines j).m (x.machines j).m_sent ((x.beside j).metadata (side_counted job side_numbers j side))).none_done,
             (to_be kinds.Log (inr refl) j side (x.machines j).l (x.machines j).l_sent ((x.beside j).log (side_counted job side_numbers j side))).none_done,
@@ -328,7 +354,20 @@ module _ (generation : ℕ → ℕ) (nodes target : ℕ) {base : Bases generatio
           log = λ j side. copied kinds.Log (inr refl) j side (λ k. cc) parent_machines.l parent_machines.l_sent
               (there_below generation nodes target (later generation nodes target c y x event) (log_of job.range) parent_machines.l parent_machines.l_sent (gone.log counted) (parent_there kinds.Log))
               (x.machines j).l (x.machines j).l_sent ((x.beside j).log (side_counted job side_numbers j side));
+          same_list = λ j side. same_extents kinds.Metadata (inl refl) j side;
         }
+
+    -- what is built of the metadata of another is one of these sides
+    brings_sides : BringsSides generation nodes target c y x event (sides job) job.range
+    unfolding head_range
+    brings_sides s k other split making side there = elim (news_here s k other split making side there) [
+      | inl old ↦ inl old
+      | inr builds ↦
+          (let m_in : Contains (all_streams job) builds.entry = in_split builds.entry (subst (λ l. Contains l builds.entry) (sym built_here) builds.among) in
+          let e : IsEntry job builds.entry = each-contains (IsEntry job) (all_streams job) builds.entry (all_entries job) m_in in
+          let range_is : builds.entry.stream.range ≡ side_range other side = ap (λ (n : StreamName). n.range) builds.stream in
+          inr (subst (λ n. sides job n ≡ true) range_is (entry_side job builds.entry m_in), ap head_range (sym e.source ∙ builds.sources)))
+    ]
 
     abbrev half_built : ServerRun
     half_built = runs.built_streams job.range job.low y
@@ -337,7 +376,7 @@ module _ (generation : ℕ → ℕ) (nodes target : ℕ) {base : Bases generatio
     are_built = is_built_run y job.range job.low job.high (or_parts (job.range == job.low) (job.range == job.high) parent_apart).0
 
     abbrev sides_stand : Next (runs.built_streams job.range job.high half_built)
-    sides_stand = event_stands generation nodes target c y x event (sides job) job.range builds_sides (runs.built_streams job.range job.high half_built) are_built
+    sides_stand = event_stands generation nodes target c y x event (sides job) job.range builds_sides (runs.built_streams job.range job.high half_built) are_built brings_sides
 
     -- the logs of both are that of the parent
     sides_shared : NowShares generation y sides_stand.machines (Builds job.range job.high ∷ Builds job.range job.low ∷ [])
@@ -347,7 +386,7 @@ module _ (generation : ℕ → ℕ) (nodes target : ℕ) {base : Bases generatio
         (shared job.low (ap (λ t. t || (job.low == job.high)) (same_number job.low)) (y.story (log_name job.range)) (source_stays half_built job.range job.high ∙ source_stays y job.range job.low))
       where
         machine_is : (j : ℕ) → sides_stand.machines j ≡ next_machines generation nodes target c y x event (sides job) job.range builds_sides (runs.built_streams job.range job.high half_built) are_built j
-        machine_is j = event_machines generation nodes target c y x event (sides job) job.range builds_sides (runs.built_streams job.range job.high half_built) are_built j
+        machine_is j = event_machines generation nodes target c y x event (sides job) job.range builds_sides (runs.built_streams job.range job.high half_built) are_built brings_sides j
 
         log_is : (j : ℕ) → sides job j ≡ true → (sides_stand.machines j).l ≡ (sides_stand.machines job.range).l
         log_is j is =

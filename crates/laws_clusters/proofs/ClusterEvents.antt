@@ -24,6 +24,7 @@ use Rattle.laws_clusters.proofs.MapWords.{Completes}
 use Rattle.laws_clusters.proofs.OtherEvents.{stops_stand, starts_stand, moment_stands}
 use Rattle.laws_clusters.proofs.ServerPackets.{takes_stands, OwedPicked, gives_up_stands, checkpoints_stand, splits_stand}
 use Rattle.laws_clusters.proofs.ServerRules.{IsLaid}
+use Rattle.laws_clusters.proofs.SplitNews.{BuildsOfSplits}
 use Rattle.laws_clusters.proofs.SplitServers.{SplitsOwed}
 
 -- the events that come to servers, one after the other
@@ -65,9 +66,9 @@ module _ (nodes target batch count : ℕ) where
 
     -- ---- events
 
-    delivers_on : (number : ℕ) → EventOwes (Deliver number) → (o : Option Packet) → slice_get c.stream_layer.post number ≡ o → Stands base (delivers c o) (delivery_events c o ++ coming)
-    delivers_on number owes None at = x
-    delivers_on number owes (Some p) at = go p.to refl (owes p at)
+    delivers_on : (number : ℕ) → BuildsOfSplits c (Deliver number) → EventOwes (Deliver number) → (o : Option Packet) → slice_get c.stream_layer.post number ≡ o → Stands base (delivers c o) (delivery_events c o ++ coming)
+    delivers_on number news owes None at = x
+    delivers_on number news owes (Some p) at = go p.to refl (owes p at)
       where
         built_is : (to : ActorId) → p.to ≡ to → built_in c.stream_layer (Deliver number) ≡ built_at c.stream_layer p to
         built_is to is = ap (built_if c.stream_layer) at ∙ ap (built_at c.stream_layer p) is
@@ -75,14 +76,14 @@ module _ (nodes target batch count : ℕ) where
         layer_takes : (to : ActorId) → p.to ≡ to → built_at c.stream_layer p to ≡ [] → Stands base (record c { stream_layer = delivered c.stream_layer p to }) coming
         layer_takes to is none =
             subst (λ z. Stands base (record c { stream_layer = z }) coming) (ap (delivered_if c.stream_layer) at ∙ ap (delivered c.stream_layer p) is)
-            (happens_stands generation_at nodes target c y x (Deliver number) (built_is to is ∙ none))
+            (happens_stands generation_at nodes target c y x (Deliver number) news (built_is to is ∙ none))
 
         manager_takes : p.to ≡ Manager → Stands base (record c { stream_layer = delivered c.stream_layer p Manager }) (built_events (built_at c.stream_layer p Manager) ++ coming)
         manager_takes is =
             subst (λ l. Stands base (record c { stream_layer = delivered c.stream_layer p Manager }) (built_events l ++ coming)) (built_is Manager is)
             (subst (λ z. Stands base (record c { stream_layer = z }) (built_events (built_in c.stream_layer (Deliver number)) ++ coming)) (ap (delivered_if c.stream_layer) at ∙ ap (delivered c.stream_layer p) is)
             (subst (λ z. Standing generation_at nodes target base (record c { stream_layer = happens c.stream_layer (Deliver number) }) z) (run_events batch count (built_events (built_in c.stream_layer (Deliver number))) coming)
-            (builds_stand generation_at nodes target c y x (Deliver number))))
+            (builds_stand generation_at nodes target c y x (Deliver number) news)))
 
         go : (to : ActorId) → p.to ≡ to → PacketOwes p to → Stands base (delivered_to c p to) (packet_events c to p ++ coming)
         go (Server s) is owed = takes_stands generation_at plenty nodes target c y x whole s p (contains_get c.stream_layer.post number p at) is owed.0 owed.1
@@ -91,22 +92,22 @@ module _ (nodes target batch count : ℕ) where
         go Map is owed = map_takes_stand generation_at nodes target y c p owed x
         go (User u) is owed = layer_takes (User u) is refl
 
-    layer_on : (event : Event) → built_in c.stream_layer event ≡ [] → Standing generation_at nodes target base (record c { stream_layer = happens c.stream_layer event }) y
-    layer_on event none = happens_stands generation_at nodes target c y x event none
+    layer_on : (event : Event) → BuildsOfSplits c event → built_in c.stream_layer event ≡ [] → Standing generation_at nodes target base (record c { stream_layer = happens c.stream_layer event }) y
+    layer_on event news none = happens_stands generation_at nodes target c y x event news none
 
-    stops_on : (actor : ActorId) (call : ℕ) (keep : Bool) → Stands base (stops c actor call keep) (stop_events actor call ++ coming)
-    stops_on (Server s) call keep = stops_stand generation_at nodes target c y s call x
-    stops_on (Node n) call keep = layer_on (Stop (Node n) call keep) refl
-    stops_on Manager call keep = layer_on (Stop Manager call keep) refl
-    stops_on Map call keep = map_stops_stand generation_at nodes target y c call keep x
-    stops_on (User u) call keep = layer_on (Stop (User u) call keep) refl
+    stops_on : (actor : ActorId) (call : ℕ) (keep : Bool) → BuildsOfSplits c (Stop actor call keep) → Stands base (stops c actor call keep) (stop_events actor call ++ coming)
+    stops_on (Server s) call keep news = stops_stand generation_at nodes target c y s call x
+    stops_on (Node n) call keep news = layer_on (Stop (Node n) call keep) news refl
+    stops_on Manager call keep news = layer_on (Stop Manager call keep) news refl
+    stops_on Map call keep news = map_stops_stand generation_at nodes target y c call keep x
+    stops_on (User u) call keep news = layer_on (Stop (User u) call keep) news refl
 
-    restarts_on : (actor : ActorId) → Stands base (restarts c actor) (start_events c actor ++ coming)
-    restarts_on (Server s) = starts_stand generation_at nodes target c y s c.now c.batch x
-    restarts_on (Node n) = layer_on (Restart (Node n)) refl
-    restarts_on Manager = layer_on (Restart Manager) refl
-    restarts_on Map = map_starts_stand generation_at nodes target y c x
-    restarts_on (User u) = layer_on (Restart (User u)) refl
+    restarts_on : (actor : ActorId) → BuildsOfSplits c (Restart actor) → Stands base (restarts c actor) (start_events c actor ++ coming)
+    restarts_on (Server s) news = starts_stand generation_at nodes target c y s c.now c.batch x
+    restarts_on (Node n) news = layer_on (Restart (Node n)) news refl
+    restarts_on Manager news = layer_on (Restart Manager) news refl
+    restarts_on Map news = map_starts_stand generation_at nodes target y c x
+    restarts_on (User u) news = layer_on (Restart (User u)) news refl
 
     moment_on : (now : ℕ) → Stands base (shows_moment c now) (server_events c (Moment now) ++ coming)
     moment_on now = go (nat_lt now c.now)
@@ -115,16 +116,16 @@ module _ (nodes target batch count : ℕ) where
         go true = x
         go false = moment_stands generation_at nodes target c y now x
 
-    pub comes_on : (event : Event) → IsUnmerged event → EventOwes event → Stands base (cluster_after c event) (server_events c event ++ coming)
-    comes_on (Submit user to body) unmerged owes = layer_on (Submit user to body) refl
-    comes_on (Deliver number) unmerged owes = delivers_on number owes (slice_get c.stream_layer.post number) refl
-    comes_on (Stop actor call keep) unmerged owes = stops_on actor call keep
-    comes_on (Restart actor) unmerged owes = restarts_on actor
-    comes_on (Decide e) unmerged owes = layer_on (Decide e) refl
-    comes_on (GiveUp s range pick) unmerged owes = gives_up_stands generation_at plenty nodes target c y x whole s range pick owes.0 owes.1
-    comes_on (Assign range server until) unmerged owes = assigns_stand generation_at nodes target y c range server until x
-    comes_on (Renew range server until) unmerged owes = renews_stand generation_at nodes target y c range server until x
-    comes_on (Moment now) unmerged owes = moment_on now
-    comes_on (Checkpoint s range combine) unmerged owes = checkpoints_stand generation_at plenty nodes target c y x whole s range combine owes
-    comes_on (Split s range key) unmerged owes = splits_stand generation_at plenty nodes target c y x whole s range key owes
-    comes_on (Merge server left right) unmerged owes = absurd unmerged
+    pub comes_on : (event : Event) → IsUnmerged event → BuildsOfSplits c event → EventOwes event → Stands base (cluster_after c event) (server_events c event ++ coming)
+    comes_on (Submit user to body) unmerged news owes = layer_on (Submit user to body) news refl
+    comes_on (Deliver number) unmerged news owes = delivers_on number news owes (slice_get c.stream_layer.post number) refl
+    comes_on (Stop actor call keep) unmerged news owes = stops_on actor call keep news
+    comes_on (Restart actor) unmerged news owes = restarts_on actor news
+    comes_on (Decide e) unmerged news owes = layer_on (Decide e) news refl
+    comes_on (GiveUp s range pick) unmerged news owes = gives_up_stands generation_at plenty nodes target c y x whole s range pick owes.0 owes.1
+    comes_on (Assign range server until) unmerged news owes = assigns_stand generation_at nodes target y c range server until x
+    comes_on (Renew range server until) unmerged news owes = renews_stand generation_at nodes target y c range server until x
+    comes_on (Moment now) unmerged news owes = moment_on now
+    comes_on (Checkpoint s range combine) unmerged news owes = checkpoints_stand generation_at plenty nodes target c y x whole s range combine owes
+    comes_on (Split s range key) unmerged news owes = splits_stand generation_at plenty nodes target c y x whole s range key owes
+    comes_on (Merge server left right) unmerged news owes = absurd unmerged

@@ -1,6 +1,7 @@
 -- Where a cluster stands: the machines of each range's streams beside its run, the incarnation that each range at a server is of,
 -- the numbers of requests, and what its servers have made of what came to them.
 use Rattle.std.proofs.Common.{◌≡◌, ◌⊎◌, ℕ, ◌<◌, ◌≤◌, true, List, [], Option, Some, None, Contains, sym, ◌∙◌, inl, inr}
+use Rattle.block_types.specs.declared.record.Nodes.{Nodes}
 use Rattle.wire.specs.declared.actor.ActorId.{ActorId}
 use Rattle.wire.specs.declared.actor.ActorId.TheVariants.{Map, Server}
 use Rattle.wire.specs.declared.actor.ReqNo.{ReqNo}
@@ -20,10 +21,14 @@ use Rattle.model_streams.specs.StreamSystem.{StreamSystem, Move, run_moves, star
 use Rattle.model_partition.specs.Servers.{ServerCell}
 use Rattle.model_partition.specs.Cluster.{Cluster}
 use Rattle.model_partition.specs.Past.{Bytes, first_range}
+use Rattle.model_partition.specs.declared.split_job.Side.{Side as SplitSide}
+use Rattle.model_partition.specs.declared.split_job.Side.TheVariants.{Low, High}
 use Rattle.model_partition.specs.declared.split_job.SplitJob.{SplitJob}
+use Rattle.model_partition.specs.declared.split_job.SplitPhase.{SplitPhase}
+use Rattle.model_partition.specs.declared.split_job.SplitPhase.TheVariants as phases
 use Rattle.model_partition.specs.Range.{RangeState}
 use Rattle.model_partition.specs.Server.{ServerState, range_of, split_of}
-use Rattle.model_partition.specs.Splits.{all_streams}
+use Rattle.model_partition.specs.Splits.{all_streams, side_range}
 use Rattle.model_histories.specs.ServedTables.{AreSeenAs}
 use Rattle.model_histories.specs.ServerRun.{ServerRun, RangeHistory, stream_named}
 use Rattle.model_histories.specs.ServerTurns.{after_all, AreMoves}
@@ -36,6 +41,7 @@ use Rattle.laws_stream_machine.proofs.LowerLayer.{Below}
 use Rattle.laws_ranges.specs.Seen.{BeganAt}
 use Rattle.laws_ranges.specs.Serves.{Side, metadata_of, log_of, Apart}
 use Rattle.laws_ranges.specs.SplitJobs.{waits_seal, waits_call, FollowsBoth}
+use Rattle.laws_ranges.specs.SplitSides.{SideWaits, SidesStand}
 use Rattle.laws_ranges.proofs.TurnsAsMoves.{stand_of}
 use Rattle.laws_log_reads.specs.Reads.{HasRead}
 use Rattle.laws_server_runs.specs.Places.{AreAscending}
@@ -63,6 +69,23 @@ pub record SplitAt (servers : List ServerCell) (s range : ℕ) (job : SplitJob) 
   pub there : entry_at servers s ≡ Some cell
   pub up : cell.state ≡ Some state
   pub found : split_of state.splits range ≡ Some job
+
+-- the two ranges of a split are being made: their streams are asked for, or their keys are appended
+abbrev pub IsMaking : SplitPhase → Type 0
+IsMaking (phases.Build q) = Unit {0}
+IsMaking (phases.Keys side c) = Unit {0}
+IsMaking phase = ⊥
+
+-- The server of a split holds neither of the two ranges while they are being made, no other split there makes them, and they are two.
+pub record AreAside (servers : List ServerCell) : Type 0 where
+  pub unheld : (s k : ℕ) (job : SplitJob) → SplitAt servers s k job → IsMaking job.phase → (side : SplitSide) (r : RangeState) → HeldAt servers s (side_range job side) r → ⊥
+  pub once : (s k j : ℕ) (job other : SplitJob) → SplitAt servers s k job → SplitAt servers s j other → IsMaking job.phase → IsMaking other.phase → (side part : SplitSide) → side_range job side ≡ side_range other part → k ≡ j
+  pub two : (s k : ℕ) (job : SplitJob) → SplitAt servers s k job → IsMaking job.phase → job.low ≡ job.high → ⊥
+
+-- servers ask for more extents of no blob stream
+abbrev pub ExtendNoBlobs : List Packet → Type 0
+ExtendNoBlobs post =
+    (server : ℕ) (to : ActorId) (stream : StreamName) (fence : ℕ) (last : Option ℕ) (pick : Nodes) (q : ReqNo) → Contains post (packet (Server server) to (bodies.Stream (streams.Extend stream fence last pick q))) → stream.kind ≡ kinds.BlobData → ⊥
 
 -- what a split asks of the map, and what it asks to be built
 abbrev pub IsSplitAsk : SplitJob → Body → Type 0
@@ -113,9 +136,15 @@ module _ (generation : ℕ → ℕ) where
     pub m_sent : List Sent
     pub l_sent : List Sent
 
-  -- what the machine of each log has grown from
-  abbrev pub Bases : Type 0
-  Bases = ℕ → List (machine.Move Group generation)
+  -- What the machine of each log has grown from; and the range at a server, if there is one, whose split is in the midst of a step, so that
+  -- nothing is said yet of the metadata of the two that it makes.
+  pub record Bases : Type 0 where
+    pub logs : ℕ → List (machine.Move Group generation)
+    pub midst : Option (ℕ × ℕ)
+
+  -- the split of a range at a server is in the midst of no step
+  abbrev pub IsFirm : Bases → ℕ → ℕ → Type 0
+  IsFirm base s range = base.midst ≡ Some (s, range) → ⊥
 
   -- a number of a request about one of them
   abbrev pub HasNumber : Machines → ReqNo → Type 0
@@ -205,6 +234,28 @@ module _ (generation : ℕ → ℕ) (nodes target : ℕ) where
       pub is : o ≡ Some incarnation
       pub holds : Holds h incarnation job r
 
+  module _ (moves : List Move) (machines : ℕ → Machines generation) (history : ℕ → RangeHistory) (i : ℕ) (r : RangeState) (job : SplitJob) where
+    abbrev pub machines_of : SplitSide → Machines generation
+    machines_of side = machines (side_range job side)
+
+    -- no group is out to the log of one of the two
+    abbrev pub LogRests : SplitSide → Type 0
+    LogRests side = (event : ℕ) → BeganAt event ((after_all Group generation (machines_of side).l).phase i)
+
+    -- one of the two is there, and an append to its metadata that is out began where the server says
+    pub record SideIsThere (side : SplitSide) : Type 0 where
+      pub counted : 1 ≤ side_range job side
+      pub streams : HasStreams (here moves) (side_range job side)
+      pub append : BeganAt ((history (side_range job side)).append kinds.Metadata) ((after_all Group generation (machines_of side).m).phase i)
+      pub log : LogRests side
+
+    -- How the two ranges of a split stand: where the streams of one of them are built its metadata waits for its keys, and then these are
+    -- appended.
+    abbrev pub KeysStand : SplitPhase → Type 0
+    KeysStand (phases.Build q) = (side : SplitSide) → IsThere (here moves) (metadata_of (side_range job side)) → SideWaits generation (here moves) i (m_side generation (machines_of side) i) r job side × LogRests side
+    KeysStand (phases.Keys side c) = SidesStand generation (here moves) i (m_side generation (machines_of Low) i) (m_side generation (machines_of High) i) r job (phases.Keys side c) × ((part : SplitSide) → SideIsThere part)
+    KeysStand phase = Unit {0}
+
   -- each range of a server, under its number, is of the incarnation that is kept of it there
   pub record Runs (moves : List Move) (machines : ℕ → Machines generation) (history : ℕ → RangeHistory) (incarnation : ℕ → Option ℕ) (s : ℕ) (cell : ServerCell) (st : ServerState) : Type 0 where
     pub server : st.context.server ≡ s
@@ -222,7 +273,7 @@ module _ (generation : ℕ → ℕ) (nodes target : ℕ) where
     -- the machines of each range; a range that nobody has opened has those in which nothing has happened
     pub machines : ℕ → Machines generation
     pub beside : (range : ℕ) → AreBeside moves range (machines range)
-    pub grows : (range : ℕ) → GrewFrom (base range) (machines range).l
+    pub grows : (range : ℕ) → GrewFrom (base.logs range) (machines range).l
     pub distinct : (one other : ℕ) → (one ≡ other → ⊥) → AreDistinct generation (machines one) (machines other)
     -- numbers that have a purpose were used, and so was each number that a server has asked under
     pub past : (range : ℕ) (q : ReqNo) → HasNumber generation (machines range) q → IsPast c.servers q
@@ -236,6 +287,7 @@ module _ (generation : ℕ → ℕ) (nodes target : ℕ) where
     pub there : (s range : ℕ) (r : RangeState) → HeldAt c.servers s range r → HasStreams c.stream_layer range
     -- servers ask to build the streams of splits alone
     pub lists : AreOfSplits c.stream_layer
+    pub extends : ExtendNoBlobs c.stream_layer.post
     -- the incarnation that a range at a server is of, if it has one; those from a bound on have done nothing
     pub incarnation : (server range : ℕ) → Option ℕ
     pub bound : ℕ
@@ -244,6 +296,10 @@ module _ (generation : ℕ → ℕ) (nodes target : ℕ) where
     pub idle : (i : ℕ) → bound ≤ i → (range : ℕ) → IsIdle generation (machines range) i
     pub cells : c.servers ≡ y.servers
     pub servers : (s : ℕ) (cell : ServerCell) (st : ServerState) → entry_at c.servers s ≡ Some cell → cell.state ≡ Some st → Runs moves machines (y.history s) (incarnation s) s cell st
+    -- the two ranges of each split are aside, and stand as the incarnation of the range that is split has them
+    pub aside : AreAside c.servers
+    pub keys : (s range : ℕ) (r : RangeState) (job : SplitJob) → HeldAt c.servers s range r → SplitAt c.servers s range job → IsFirm generation base s range → (i : ℕ) → incarnation s range ≡ Some i →
+        KeysStand moves machines (y.history s) i r job job.phase
     pub stories : SeesAll y (λ range. (after_all Group generation (machines range).m).state.story) (λ range. (after_all Group generation (machines range).l).state.story)
     -- what was formed of a metadata leaves one region of the log
     pub says : (range : ℕ) → AllSay (y.story (stream_named range kinds.Metadata))

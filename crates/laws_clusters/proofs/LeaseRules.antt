@@ -27,7 +27,8 @@ use Rattle.model_partition.specs.Replay.{may_assign, may_renew, may_begin_split,
 use Rattle.model_partition.proofs.Numbers.{used_once}
 use Rattle.model_partition.proofs.Replaying.{after_sound}
 use Rattle.laws_streams.proofs.Choices.{Each, each-weaker}
-use Rattle.laws_clusters.proofs.Leases.{Lease, lease_in, KeepsTo, EntryKeeps, MapKeeps, MayTake, each_map, only_entry, found_below, drops, assign_keeps, renew_keeps, begin_keeps, complete_split_keeps, complete_merge_keeps}
+use Rattle.laws_clusters.specs.Leases.{Lease, lease_in, KeepsTo}
+use Rattle.laws_clusters.proofs.Leases.{EntryKeeps, MapKeeps, MayTake, each_map, only_entry, found_below, drops, assign_keeps, renew_keeps, begin_keeps, complete_split_keeps, complete_merge_keeps}
 
 -- what a rule leaves keeps to the leases that were kept to before it, and to those that it tells
 pub record RuleKeeps (now : ℕ) (m : MapState) (o : Outcome MapState) : Type 0 where

@@ -5,11 +5,6 @@ use Rattle.std.proofs.lemmas.Bool.{cases_eq, eqb-true}
 use Rattle.std.proofs.lemmas.Bool.Decides.{nat_tests}
 use Rattle.std.proofs.lemmas.Option.{same_Some}
 use Rattle.metadata.specs.declared.record.KeyRange.{KeyRange}
-use Rattle.wire.specs.declared.actor.ActorId.{ActorId}
-use Rattle.wire.specs.declared.actor.ActorId.TheVariants as actors
-use Rattle.wire.specs.declared.body.Body.{Body}
-use Rattle.wire.specs.declared.body.Body.TheVariants as bodies
-use Rattle.wire.specs.declared.body.MapBody.TheVariants as maps
 use Rattle.model_streams.proofs.Tests.{if_elim}
 use Rattle.model_partition.specs.declared.pending.Pending.{Pending}
 use Rattle.model_partition.specs.declared.pending.Pending.TheVariants as pendings
@@ -18,30 +13,7 @@ use Rattle.model_partition.specs.Map.{MapState, range_at, changed_if, with_range
 use Rattle.model_partition.specs.Partition.{one_if, uses_pending, uses, AreFresh}
 use Rattle.model_partition.proofs.Numbers.{beside_used}
 use Rattle.laws_streams.proofs.Choices.{Each, each-weaker}
-
--- under this generation the server holds the range up to this moment
-pub record Lease : Type 0 where
-  pub server : ℕ
-  pub range : ℕ
-  pub generation : ℕ
-  pub until : ℕ
-
--- the lease that the map tells an actor of, if it does
-abbrev pub lease_for : ActorId → ℕ → ℕ → ℕ → Option Lease
-lease_for (actors.Server s) range generation until = Some (record { server = s; range = range; generation = generation; until = until })
-lease_for to range generation until = None
-
-abbrev pub lease_in : ActorId → Body → Option Lease
-lease_in to (bodies.Map (maps.Assign range generation until)) = lease_for to range generation until
-lease_in to (bodies.Map (maps.Renew range generation until)) = lease_for to range generation until
-lease_in to body = None
-
--- an entry of this generation, end and holder keeps to a lease of its range
-pub record KeepsTo (lease : Lease) (now generation until : ℕ) (holder : Option ℕ) : Type 0 where
-  pub generation_above : lease.generation ≤ generation
-  pub until_above : lease.until ≤ until
-  pub same : lease.generation ≡ generation → holder ≡ Some lease.server
-  pub other : (holder ≡ Some lease.server → ⊥) → lease.until ≤ now
+use Rattle.laws_clusters.specs.Leases.{Lease, KeepsTo}
 
 -- an entry keeps to it, and no range that is to come has the lease's range for its number
 abbrev pub EntryKeeps : Lease → ℕ → RangeEntry → Type 0

@@ -22,7 +22,8 @@ use Rattle.model_partition.proofs.Replaying.{first_sound}
 use Rattle.laws_streams.proofs.Choices.{Each}
 use Rattle.laws_servers.specs.Sending.{AllFromServers}
 use Rattle.laws_servers.proofs.ServerSteps.{IsStill, server_takes_shows, server_gives_up_tidy, server_checkpoints_tidy, server_splits_tidy, server_merges_tidy, server_stops_still, server_starts_still}
-use Rattle.laws_clusters.proofs.Leases.{Lease, lease_in, KeepsTo, EntryKeeps, MapKeeps}
+use Rattle.laws_clusters.specs.Leases.{Lease, lease_in, KeepsTo}
+use Rattle.laws_clusters.proofs.Leases.{EntryKeeps, MapKeeps}
 use Rattle.laws_clusters.proofs.LeaseRules.{RuleKeeps, assign_rule_keeps, renew_rule_keeps, map_rule_keeps}
 use Rattle.laws_clusters.proofs.Senders.{none_from_map}
 use Rattle.laws_clusters.proofs.StreamEvents.{happens_map}

@@ -27,8 +27,7 @@ use Rattle.model_partition.specs.Partition.{one_if, uses_pending, uses}
 use Rattle.model_partition.proofs.Numbers.{kept, dropped, fewer, split_fewer, merge_fewer}
 use Rattle.laws_map.specs.Naming.{Each}
 use Rattle.laws_map.proofs.UsedNumbers.{used_at, assigns_nothing, renews_nothing}
-use Rattle.laws_clusters.proofs.AbsentStreams.{AllStay}
-use Rattle.laws_clusters.proofs.RangeStreams.{HasStreams, streams_stay}
+use Rattle.laws_clusters.proofs.RangeStreams.{AllStay, HasStreams, streams_stay}
 use Rattle.laws_clusters.proofs.SaidPackets.{AreSaid}
 use Rattle.laws_clusters.proofs.ServerNotes.{AreChanges}
 
@@ -87,18 +86,20 @@ pub record AreCounted (m : MapState) : Type 0 where
   pub next : 1 ≤ m.next
   pub entries : uses 0 m.ranges ≡ 0
 
-not_first : (n : ℕ) → 1 ≤ n → one_if (n == 0) ≡ 0
+-- a number from 1 on is not 0
+pub not_first : (n : ℕ) → 1 ≤ n → one_if (n == 0) ≡ 0
 not_first n counted = go (n == 0) refl
   where
     go : (b : Bool) → (n == 0) ≡ b → one_if b ≡ 0
     go true e = absurd (grind (arith, nat_tests))
     go false e = refl
 
-none_of_fewer : (m n : ℕ) → m ≤ n → n ≡ 0 → m ≡ 0
+-- what is no more than nothing is nothing
+pub none_of_fewer : (m n : ℕ) → m ≤ n → n ≡ 0 → m ≡ 0
 none_of_fewer m n less none = omega (arith, less, none)
 
 -- what is begun at a range gets other numbers
-begun_counted : (range : ℕ) (p : Pending) → uses_pending 0 (Some p) ≡ 0 → (rs : List RangeEntry) → uses 0 rs ≡ 0 → uses 0 (map (changed_if range (with_pending p)) rs) ≡ 0
+pub begun_counted : (range : ℕ) (p : Pending) → uses_pending 0 (Some p) ≡ 0 → (rs : List RangeEntry) → uses 0 rs ≡ 0 → uses 0 (map (changed_if range (with_pending p)) rs) ≡ 0
 begun_counted range p none [] zeros = refl
 begun_counted range p none (r ∷ rs) zeros =
     let rest : uses 0 (map (changed_if range (with_pending p)) rs) ≡ 0 = begun_counted range p none rs (omega (arith, zeros)) in

@@ -157,17 +157,8 @@ module _ (P : ℕ → ℕ → Type 0) (Q : MapState → Type 0) (c : Cluster) wh
 
   asks_nothing : (event : Event) → IsUnmerged event → AskedIn K c event
   asks_nothing (Split s range key) unmerged = λ cell at st is r sent. tt
-  asks_nothing (Submit user to body) unmerged = tt
-  asks_nothing (Deliver number) unmerged = tt
-  asks_nothing (Stop actor call keep) unmerged = tt
-  asks_nothing (Restart actor) unmerged = tt
-  asks_nothing (Decide e) unmerged = tt
-  asks_nothing (GiveUp server range pick) unmerged = tt
-  asks_nothing (Assign range server until) unmerged = tt
-  asks_nothing (Renew range server until) unmerged = tt
-  asks_nothing (Moment now) unmerged = tt
-  asks_nothing (Checkpoint server range combine) unmerged = tt
   asks_nothing (Merge server left right) unmerged = absurd unmerged
+  asks_nothing event unmerged = tt
 
   -- a delivery names no new lease
   delivery_names : (number : ℕ) → Named c → Named (cluster_after c (Deliver number))
@@ -437,17 +428,8 @@ module _ (batch count : ℕ) where
       where
         nothing_asked : (event : Event) → IsUnmerged event → AskedIn (λ a. assigning (IsSettled a)) c event
         nothing_asked (Split s range key) unmerged = λ cell at st is r sent. tt
-        nothing_asked (Submit user to body) unmerged = tt
-        nothing_asked (Deliver number) unmerged = tt
-        nothing_asked (Stop actor call keep) unmerged = tt
-        nothing_asked (Restart actor) unmerged = tt
-        nothing_asked (Decide e) unmerged = tt
-        nothing_asked (GiveUp server range pick) unmerged = tt
-        nothing_asked (Assign range server until) unmerged = tt
-        nothing_asked (Renew range server until) unmerged = tt
-        nothing_asked (Moment now) unmerged = tt
-        nothing_asked (Checkpoint server range combine) unmerged = tt
         nothing_asked (Merge server left right) unmerged = absurd unmerged
+        nothing_asked event unmerged = tt
 
   -- ---- runs
 

@@ -9,7 +9,7 @@ use Rattle.wire.specs.declared.actor.ActorId.TheVariants.{Map, Server}
 use Rattle.wire.specs.declared.actor.ReqNo.{ReqNo}
 use Rattle.wire.specs.declared.body.Body.{Body}
 use Rattle.wire.specs.declared.body.Body.TheVariants as bodies
-use Rattle.wire.specs.declared.body.StreamBody.TheVariants.{MultiModify}
+use Rattle.wire.specs.declared.body.StreamBody.TheVariants.{Extend, MultiModify}
 use Rattle.wire.specs.declared.note.Note.{Note}
 use Rattle.wire.specs.declared.packet.Packet.{Packet}
 use Rattle.wire.specs.declared.refusal.Refusal.{Refusal}
@@ -28,6 +28,7 @@ use Rattle.model_partition.specs.Servers.{ServerCell, ServersOutcome, with_told,
 use Rattle.model_partition.specs.Cluster.{Cluster, servers_perform, told_by_map}
 use Rattle.model_partition.specs.declared.server_context.ServerContext.{ServerContext}
 use Rattle.model_partition.specs.declared.split_job.SplitJob.{SplitJob}
+use Rattle.model_partition.specs.Splits.{side_range}
 use Rattle.model_partition.specs.Range.{RangeState, refuses}
 use Rattle.model_partition.specs.Server.{ServerState, ServerOutcome, range_of, split_of, set_range, rests, renew_rule, moment_rule, started}
 use Rattle.model_histories.specs.ServerTurns.{Whole, after_all}
@@ -45,13 +46,14 @@ use Rattle.laws_clusters.proofs.Copies.{AllSay}
 use Rattle.laws_clusters.proofs.ObservedBytes.{AreObserved, observed_on, tells_fewer}
 use Rattle.laws_clusters.proofs.ServerNotes.{server_notes, AreChanges, changes_served}
 use Rattle.laws_clusters.proofs.StreamMachines.{AllAskedOf, Further, told_further}
-use Rattle.laws_clusters.proofs.OtherRanges.{onward_same, holds_on, held_on}
-use Rattle.laws_clusters.proofs.RangeStreams.{HasStreams, catalog_stays, AreOfSplits, split_stays, AsksOthers, absent_on}
+use Rattle.laws_clusters.proofs.OtherRanges.{wider_same, onward_same, holds_on, held_on}
+use Rattle.laws_clusters.proofs.RangeStreams.{HasStreams, catalog_stays, streams_stay, AreOfSplits, split_stays, AsksOthers, absent_on}
 use Rattle.laws_clusters.proofs.MapWords.{IsWord, AreCounted, AllHave, AreWords, words_of, words_said}
 use Rattle.laws_clusters.proofs.SaidPackets.{AreSaid, said_of, said_sent, said_plain, said_alone, said_list}
 use Rattle.laws_loads.proofs.Entries.{entry_set, entry_other, entry_unmapped}
 use Rattle.laws_clusters.proofs.RequestNumbers.{PastAt, IsPast, used_number, AreNumbersPast, past_on, past_step, past_stops, past_starts, past_moment}
-use Rattle.laws_clusters.proofs.Invariant.{Machines, HeldAt, SplitAt, Waiter, OfRows, OfSeal, OfCall, Waits, AskedBy, Out, AllOut, IsBeside, AreBeside, here, m_side, l_side, Holds, IsHeld, Runs, Standing, Bases}
+use Rattle.laws_clusters.proofs.Invariant.{Machines, HeldAt, SplitAt, AreAside, ExtendNoBlobs, Waiter, OfRows, OfSeal, OfCall, Waits, AskedBy, Out, AllOut, IsBeside, AreBeside, here, m_side, l_side, Holds, IsHeld, KeysStand, Runs, Standing, Bases}
+use Rattle.laws_clusters.proofs.SplitSidesKept.{same_keys, keys_on}
 
 -- ---- servers that run as before
 
@@ -233,6 +235,7 @@ module _ (generation : ℕ → ℕ) (nodes target : ℕ) where
     first = subst (λ v. HasStreams v first_range) (sym same) x.first;
     there = λ s range k held. subst (λ v. HasStreams v range) (sym same) (let was = held_before s range k held in x.there s range was.0 was.1);
     lists = subst AreOfSplits (sym same) x.lists;
+    extends = subst (λ (v : StreamSystem). ExtendNoBlobs v.post) (sym same) x.extends;
     incarnation = x.incarnation;
     bound = x.bound;
     own = x.own;
@@ -240,6 +243,10 @@ module _ (generation : ℕ → ℕ) (nodes target : ℕ) where
     idle = x.idle;
     cells = cells;
     servers = λ s cell st at up. runs_as c y z still x s cell st (runs s cell st at up);
+    aside = aside_before;
+    keys = λ s range k job held split firm i is.
+        (let was = held_before s range k held in
+        keys_as s was.0 k job was.2 i (x.keys s range was.0 job was.1 (split_before s range job split) firm i is));
     stories = record {
       metadata_is = λ range. still.story (stream_named range kinds.Metadata) ∙ x.stories.metadata_is range;
       log_is = λ range. still.story (stream_named range kinds.Log) ∙ x.stories.log_is range;
@@ -271,6 +278,28 @@ module _ (generation : ℕ → ℕ) (nodes target : ℕ) where
           go : RunsAs c.servers s h.cell h.state → SplitAt c.servers s range job
           go (Ran old was at up server session lasts ranges splits) = record { cell = old; state = was; there = at; up = up; found = sym (ap (λ l. split_of l range) splits) ∙ h.found }
           go (Begun server session none no_split) = absurd (let e : None ≡ Some job = sym (ap (λ l. split_of l range) no_split) ∙ h.found in cc)
+
+      aside_before : AreAside d.servers
+      aside_before = record {
+        unheld = λ s k job split making side r held. (let was = held_before s (side_range job side) r held in x.aside.unheld s k job (split_before s k job split) making side was.0 was.1);
+        once = λ s k j job other split also making too side part. x.aside.once s k j job other (split_before s k job split) (split_before s j other also) making too side part;
+        two = λ s k job split. x.aside.two s k job (split_before s k job split);
+      }
+
+      -- the two ranges of a split stand as they stood, and what their keys are made of is the same
+      keys_as : (s : ℕ) (r k : RangeState) (job : SplitJob) → IsSameRange r k → (i : ℕ) → KeysStand generation nodes target x.moves x.machines (y.history s) i r job job.phase →
+          KeysStand generation nodes target x.moves x.machines (z.history s) i k job job.phase
+      keys_as s r k job lease i stand =
+          keys_on generation nodes target x.moves x.moves x.machines x.machines (y.history s) (z.history s) i job r k
+          (record { said = ap (λ (u : RangeState). u.said) lease.is; metadata = ap (λ (u : RangeState). u.metadata) lease.is }) job.phase (λ making side there. there)
+          (λ making side there.
+          record {
+            metadata = wider_same generation nodes target (metadata_of (side_range job side)) (here generation nodes target x.moves) (here generation nodes target x.moves)
+                (after_all Group generation (x.machines (side_range job side)).m).state (x.machines (side_range job side)).m_sent refl;
+            steady = (refl, refl);
+            append = ap (λ (h : RangeHistory). h.append kinds.Metadata) (still.history s (side_range job side));
+            streams = λ has. has;
+          }) stand
 
       rows_are : (s range : ℕ) (k : RangeState) (h : HeldAt d.servers s range k) → k.rows ≡ (held_before s range k h).0.rows
       rows_are s range k h = ap (λ (z : RangeState). z.rows) (held_before s range k h).2.is
@@ -535,6 +564,29 @@ module _ (generation : ℕ → ℕ) (nodes target : ℕ) where
           split_held = before.split_held;
         }
 
+    -- nor for more extents
+    still_extends : ExtendNoBlobs (c.stream_layer.post ++ ps)
+    still_extends server to stream fence last pick q there = elim (Contains-append_cases c.stream_layer.post ps (packet (Server server) to (bodies.Stream (Extend stream fence last pick q))) there) [
+      | inl old ↦ x.extends server to stream fence last pick q old
+      | inr now ↦ absurd (none_asked server to (bodies.Stream (Extend stream fence last pick q)) now q refl)
+    ]
+
+    still_there : (name : StreamName) → IsThere (here generation nodes target later) name → IsThere w name
+    still_there name there = catalog_stays (here generation nodes target later) w (sym same_catalog) name there
+
+    still_keys : (s : ℕ) (r : RangeState) (job : SplitJob) (i : ℕ) → KeysStand generation nodes target x.moves x.machines (y.history s) i r job job.phase →
+        KeysStand generation nodes target later x.machines (y.history s) i r job job.phase
+    still_keys s r job i stand =
+        keys_on generation nodes target x.moves later x.machines x.machines (y.history s) (y.history s) i job r r (same_keys r) job.phase (λ making side there. still_there (metadata_of (side_range job side)) there)
+        (λ making side there.
+        record {
+          metadata = wider_same generation nodes target (metadata_of (side_range job side)) w (here generation nodes target later) (after_all Group generation (x.machines (side_range job side)).m).state
+              (x.machines (side_range job side)).m_sent same_catalog;
+          steady = (refl, refl);
+          append = refl;
+          streams = streams_stay w (here generation nodes target later) (catalog_stays w (here generation nodes target later) same_catalog) (side_range job side);
+        }) stand
+
     abbrev more : List Note
     more = c.stream_layer.notes ++ notes
 
@@ -559,6 +611,7 @@ module _ (generation : ℕ → ℕ) (nodes target : ℕ) where
       first = x.first;
       there = x.there;
       lists = still_lists;
+      extends = still_extends;
       incarnation = x.incarnation;
       bound = x.bound;
       own = x.own;
@@ -566,6 +619,8 @@ module _ (generation : ℕ → ℕ) (nodes target : ℕ) where
       idle = x.idle;
       cells = x.cells;
       servers = still_stands;
+      aside = x.aside;
+      keys = λ s range r job held split firm i is. still_keys s r job i (x.keys s range r job held split firm i is);
       stories = x.stories;
       says = x.says;
       observed = λ range. observed_on c.stream_layer.notes more kept_notes (y.shown range) (x.observed range);

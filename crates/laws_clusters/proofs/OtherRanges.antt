@@ -22,10 +22,10 @@ use Rattle.model_histories.specs.StreamMachine as extents
 use Rattle.laws_stream_machine.specs.Refinement.{Sent, extents_of}
 use Rattle.laws_ranges.specs.Seen.{BeganAt}
 use Rattle.laws_ranges.specs.Serves.{Side, metadata_of, log_of, rows_of, Wider, BothGo}
-use Rattle.laws_ranges.specs.SplitJobs.{waits_seal, FollowsBoth, FollowsBothIf}
+use Rattle.laws_ranges.specs.SplitJobs.{waits_seal, FollowsBoth}
 use Rattle.laws_ranges.proofs.SplitsKept.{both_row_data, seal_aside, follows_both_on}
 use Rattle.laws_ranges.proofs.TurnsAsMoves.{stand_of}
-use Rattle.laws_log_reads.specs.Reads.{HasRead, HasReadIf}
+use Rattle.laws_log_reads.specs.Reads.{HasRead}
 use Rattle.laws_log_reads.proofs.MachineSteps.{both_wider, left_turned}
 use Rattle.laws_log_reads.proofs.MoreKnown.{has_read_on}
 use Rattle.laws_clusters.proofs.Invariant.{Machines, HasNone, here, m_side, l_side, Holds, IsHeld}
@@ -86,17 +86,14 @@ module _ (generation : ℕ → ℕ) (nodes target : ℕ) where
 
   -- ---- the incarnation itself
 
-  module _ (moves : List Move) (range : ℕ) (x : Machines generation) (i : ℕ) (d : ServerContext) (o : RangeOutcome) (job : Option SplitJob)
-      (g : BothGo generation range (here generation nodes target moves) i (FollowsBothIf generation range (here generation nodes target moves) i job) (m_side generation x i) (l_side generation x i) d o) (later : List Move)
+  module _ (moves : List Move) (range : ℕ) (x : Machines generation) (i : ℕ) (d : ServerContext) (o : RangeOutcome) (Then : Option RangeState → Side → Side → Type 0) (job : Option SplitJob)
+      (g : BothGo generation range (here generation nodes target moves) i Then (m_side generation x i) (l_side generation x i) d o) (later : List Move)
       (same_catalog : (here generation nodes target later).catalog ≡ (here generation nodes target moves).catalog)
       (all_notes : (note : Note) → Contains (here generation nodes target moves).notes note → Contains (here generation nodes target later).notes note)
-      (h : RangeHistory) (record_append : BeganAt (h.append kinds.Metadata) (m_after generation nodes target moves range x i d o (FollowsBothIf generation range (here generation nodes target moves) i job) g).stand.phase)
-      (append : BeganAt (h.append kinds.Log) (l_after generation nodes target moves range x i d o (FollowsBothIf generation range (here generation nodes target moves) i job) g).stand.phase) where
+      (h : RangeHistory) (record_append : BeganAt (h.append kinds.Metadata) (m_after generation nodes target moves range x i d o Then g).stand.phase)
+      (append : BeganAt (h.append kinds.Log) (l_after generation nodes target moves range x i d o Then g).stand.phase) where
     abbrev w : StreamSystem
     w = here generation nodes target moves
-
-    abbrev Then : Option RangeState → Side → Side → Type 0
-    Then = FollowsBothIf generation range w i job
 
     abbrev v : StreamSystem
     v = here generation nodes target later
@@ -104,7 +101,8 @@ module _ (generation : ℕ → ℕ) (nodes target : ℕ) where
     abbrev after : Machines generation
     after = machines_after generation nodes target moves range x i d o Then g
 
-    own_holds : (r : RangeState) → FollowsBothIf generation range w i job (Some r) (m_after generation nodes target moves range x i d o Then g) (l_after generation nodes target moves range x i d o Then g) →
+    -- what the rule leaves of the range
+    pub own_holds : (r : RangeState) → FollowsBoth generation range w i job r (m_after generation nodes target moves range x i d o Then g) (l_after generation nodes target moves range x i d o Then g) →
         HasRead range w i (after_all Group generation x.m).state (after_all Group generation x.l).state h r → Holds generation nodes target later range after h i job r
     own_holds r f read =
         let a : Side = m_after generation nodes target moves range x i d o Then g in
@@ -127,10 +125,3 @@ module _ (generation : ℕ → ℕ) (nodes target : ℕ) where
           record_append = subst (λ (z : Side). BeganAt (h.append kinds.Metadata) z.stand.phase) (sym (m_side_is generation nodes target moves range x i d o Then g)) record_append;
           append = subst (λ (z : Side). BeganAt (h.append kinds.Log) z.stand.phase) (sym (l_side_is generation nodes target moves range x i d o Then g)) append;
         }
-
-    -- what the rule leaves of the range
-    pub own_if : HasReadIf range w i (after_all Group generation x.m).state (after_all Group generation x.l).state h o.after → (r : RangeState) → o.after ≡ Some r → Holds generation nodes target later range after h i job r
-    own_if read r e =
-        own_holds r
-        (subst (λ z. FollowsBothIf generation range w i job z (m_after generation nodes target moves range x i d o Then g) (l_after generation nodes target moves range x i d o Then g)) e g.then)
-        (subst (λ z. HasReadIf range w i (after_all Group generation x.m).state (after_all Group generation x.l).state h z) e read)

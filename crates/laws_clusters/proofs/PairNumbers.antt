@@ -9,7 +9,7 @@ use Rattle.wire.specs.declared.body.MapBody.TheVariants as maps
 use Rattle.wire.specs.declared.packet.Packet.{Packet}
 use Rattle.wire.specs.declared.refusal.Refusal.{Refusal}
 use Rattle.model_streams.specs.declared.event.Event.{Event}
-use Rattle.model_streams.specs.declared.event.Event.TheVariants.{Submit, Deliver, Stop, Restart, Decide, GiveUp, Assign, Renew, Moment, Checkpoint, Split, Merge}
+use Rattle.model_streams.specs.declared.event.Event.TheVariants.{Deliver, Assign, Renew, Split, Merge}
 use Rattle.model_streams.specs.Outcome.{Outcome, silent}
 use Rattle.model_streams.specs.StreamSystem.{is_request}
 use Rattle.model_streams.proofs.Tests.{if_elim}
@@ -216,43 +216,18 @@ module _ (c : Cluster) (x : InPairs c) where
   rules (Deliver number) = λ p at names. by _ (rule_pairs c.map x.sound x.map p p.body (packet_apart p names))
   rules (Assign range server until) = by _ (assign_pairs c.map x.sound x.map range server until (range_at c.map.ranges range))
   rules (Renew range server until) = by _ (renew_pairs c.map x.sound x.map range server until (range_at c.map.ranges range))
-  rules (Submit user to body) = tt
-  rules (Stop actor call keep) = tt
-  rules (Restart actor) = tt
-  rules (Decide e) = tt
-  rules (GiveUp server range pick) = tt
-  rules (Moment now) = tt
-  rules (Checkpoint server range combine) = tt
-  rules (Split server range key) = tt
-  rules (Merge server left right) = tt
+  rules event = tt
 
   leaves : (event : Event) → RuleLeaves ArePairs c x.map event
   leaves (Deliver number) = λ p at. (rule_pairs c.map x.sound x.map p p.body (packet_apart p (x.names.post p (contains_get c.stream_layer.post number p at)))).after
   leaves (Assign range server until) = (assign_pairs c.map x.sound x.map range server until (range_at c.map.ranges range)).after
   leaves (Renew range server until) = λ free. (renew_pairs c.map x.sound x.map range server until (range_at c.map.ranges range)).after
-  leaves (Submit user to body) = tt
-  leaves (Stop actor call keep) = tt
-  leaves (Restart actor) = tt
-  leaves (Decide e) = tt
-  leaves (GiveUp server range pick) = tt
-  leaves (Moment now) = tt
-  leaves (Checkpoint server range combine) = tt
-  leaves (Split server range key) = tt
-  leaves (Merge server left right) = tt
+  leaves event = tt
 
   asked : (event : Event) → IsUnmerged event → AskedIn (λ a. pairs) c event
   asked (Split s range key) is = λ cell at st up r sent. tt
-  asked (Submit user to body) is = tt
-  asked (Deliver number) is = tt
-  asked (Stop actor call keep) is = tt
-  asked (Restart actor) is = tt
-  asked (Decide e) is = tt
-  asked (GiveUp server range pick) is = tt
-  asked (Assign range server until) is = tt
-  asked (Renew range server until) is = tt
-  asked (Moment now) is = tt
-  asked (Checkpoint server range combine) is = tt
   asked (Merge server left right) is = absurd is
+  asked event is = tt
 
   event_pairs : (event : Event) → IsUnmerged event → InPairs (cluster_after c event)
   event_pairs event is = record {

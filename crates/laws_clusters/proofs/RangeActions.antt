@@ -30,28 +30,19 @@ use Rattle.model_partition.specs.Answering.{groups_of, is_taken}
 use Rattle.model_partition.specs.CheckpointStates.{CheckpointState}
 use Rattle.model_partition.specs.declared.checkpoint_job.CheckpointPhase.{CheckpointPhase}
 use Rattle.model_partition.specs.declared.checkpoint_job.CheckpointPhase.TheVariants as checkpoints
-use Rattle.model_partition.specs.Checkpoints.{may_record, has_record_number, index_place, rows_may_stand, trim_awaits}
+use Rattle.model_partition.specs.Checkpoints.{may_record, index_place, rows_may_stand, trim_awaits}
 use Rattle.model_partition.specs.PlaceReads.{reads_under}
-use Rattle.checkpoint_format.specs.Index.{fits_a_group}
 use Rattle.model_partition.specs.Range.{OutGroup, RangeState, RangeOutcome, request, picking, if_there, is_serving}
 use Rattle.model_histories.specs.ServerRun.{RangeHistory, ServerRun, place_number, placed_reads, placed_behind, with_event, is_kind, is_stream, stream_named, bytes_read, after_action, after_actions}
 use Rattle.model_histories.specs.Story.{Story, StreamEvent, Made, Showed, event_at}
 use Rattle.model_histories.specs.StreamActions.{ExtentRead, StreamAction, Reads, Forms, Stands, Shows, Finds, Stores, group_of, formed, transact_actions, last_position, stood, serving_actions, loading_actions, confirmed_actions, load_actions, record_group, record_stood_in, record_stood, record_actions, metadata_actions, index_stood_in, index_stood, rows_told_actions, rows_actions, bytes_told_actions, bytes_actions, answer_actions, PlacedBytes}
 use Rattle.laws_loads.specs.RangeView.{RangeView, view_after, view_after_all}
 use Rattle.laws_log_reads.specs.Reads.{SaysOneRegion, IsShown, AllShown}
-use Rattle.laws_clusters.proofs.CheckpointRecords.{record_says}
+use Rattle.laws_log_reads.proofs.CheckpointRecords.{group_says}
 use Rattle.laws_clusters.proofs.Copies.{AllSay}
 use Rattle.laws_clusters.proofs.ObservedBytes.{IsObserved, AsContent, AsSeen, AsAcked, AreObserved, observed_both}
 use Rattle.laws_clusters.proofs.Invariant.{IsOther}
 use Rattle.model_streams.specs.StreamSystem.{StreamSystem}
-
-and_first : (a b : Bool) → (a && b) ≡ true → a ≡ true
-and_first true b e = refl
-and_first false b e = absurd cc
-
-and_second : (a b : Bool) → (a && b) ≡ true → b ≡ true
-and_second true b e = e
-and_second false b e = absurd cc
 
 -- ---- streams of other names
 
@@ -145,10 +136,7 @@ metadata_on d r body =
 
 index_in_on : (r : RangeState) (job : CheckpointState) (phase : CheckpointPhase) (extent offset : ℕ) → AreOnEither (index_stood_in r job phase extent offset)
 index_in_on r job checkpoints.Index extent offset =
-    if_elim AreOnEither (may_record r job) _ _ (λ t. (inl (refl, record_says r job (index_place job extent offset) (numbered t)), tt)) (λ f. tt)
-  where
-    numbered : may_record r job ≡ true → has_record_number r ≡ true
-    numbered t = and_first (has_record_number r) _ (and_second (fits_a_group job.pages.index) _ t)
+    if_elim AreOnEither (may_record r job) _ _ (λ t. (inl (refl, group_says r job (index_place job extent offset)), tt)) (λ f. tt)
 index_in_on r job phase extent offset = tt
 
 index_stood_on : (r : RangeState) (job : Option CheckpointState) (extent offset : ℕ) → AreOnEither (index_stood r job extent offset)

@@ -32,8 +32,8 @@ use Rattle.model_histories.specs.StreamActions.{StreamAction, transact_actions, 
 use Rattle.laws_loads.specs.RangeView.{RangeView, view_after_all}
 use Rattle.laws_stream_machine.specs.Refinement.{Means, asked_number, extents_of}
 use Rattle.laws_stream_machine.proofs.LowerLayer.{Below, below_made, below_index, below_alone}
-use Rattle.laws_ranges.specs.Seen.{LoadIsRead, RuleSees}
-use Rattle.laws_ranges.specs.Serves.{Side, metadata_of, log_of, rows_of, IsOfRows, IsPastRows, BeginsRightly, BothListed, IsCounted, IsConfirming, IsServing, StageIs, Follows, FollowsIf, IsSentBy}
+use Rattle.laws_ranges.specs.Seen.{AreSeen, LoadIsRead, RuleSees}
+use Rattle.laws_ranges.specs.Serves.{Side, metadata_of, log_of, rows_of, IsOfRows, IsPastRows, BeginsRightly, BothListed, IsCounted, IsConfirming, IsServing, StageIs, Follows, FollowsIf, IsSentBy, BothGo}
 use Rattle.laws_ranges.specs.SplitJobs.{FollowsBothIf, SplitSees}
 use Rattle.laws_ranges.proofs.SplitSteps.{rule_split}
 use Rattle.laws_ranges.proofs.BothStreamsAtOnce.{taken}
@@ -71,6 +71,10 @@ rows_made nodes target moves range e (index, at) none = go (stream_of (run_moves
     go (Some z) is there =
         let made = ((lists_grow nodes target moves []).listed (rows_of range) z is).there index e there in
         let both : None ≡ Some made.0 = sym none ∙ made.1 in cc
+
+-- a step, where this is left of the range
+abbrev pub outcome_of : Option RangeState → SplitStep → RangeOutcome
+outcome_of left t = record { after = left; count = t.count; packets = []; notes = [] }
 
 module _ (generation : ℕ → ℕ) (nodes target : ℕ) {base : Bases generation} (c : Cluster) (y : ServerRun) (x : Standing generation nodes target base c y) (range : ℕ) (founded : IsFounded c.stream_layer range) where
   abbrev w : StreamSystem
@@ -132,6 +136,43 @@ module _ (generation : ℕ → ℕ) (nodes target : ℕ) {base : Bases generatio
       pub read : HasReadIf range w i m.stand.state l.stand.state (view_after_all (generation i) v actions).history t.range
       pub on_either : AreOnEither actions
       pub observed : SeesBytes w.notes (view_after_all (generation i) v actions).shown (view_after_all (generation i) v actions).answered
+
+    -- What a step does with the machines of the range, whatever is left of the range: where a server holds none, its split of another range
+    -- may go on in them.
+    pub record Turned (v : RangeView) (t : SplitStep) (actions : List StreamAction) : Type 0 where
+      pub left : Option RangeState
+      pub goes : BothGo generation range w i (λ after n k. FollowsBothIf generation range w i t.job t.range n k) m l d (outcome_of left t)
+      pub seen : AreSeen generation i v m.stand l.stand goes.metadata_turns goes.log_turns actions
+      pub read : HasReadIf range w i m.stand.state l.stand.state (view_after_all (generation i) v actions).history t.range
+      pub on_either : AreOnEither actions
+      pub observed : SeesBytes w.notes (view_after_all (generation i) v actions).shown (view_after_all (generation i) v actions).answered
+
+    -- a step of the range and its split
+    abbrev pub turned : (v : RangeView) (t : SplitStep) (actions : List StreamAction) → Acted v t actions → Turned v t actions
+    turned v t actions k = record {
+      left = t.range;
+      goes = record {
+        metadata_turns = k.rule.step.goes.metadata_turns;
+        log_turns = k.rule.step.goes.log_turns;
+        metadata_allowed = k.rule.step.goes.metadata_allowed;
+        log_allowed = k.rule.step.goes.log_allowed;
+        none = k.rule.step.goes.none;
+        metadata_sent = k.rule.step.goes.metadata_sent;
+        log_sent = k.rule.step.goes.log_sent;
+        metadata_keeps = k.rule.step.goes.metadata_keeps;
+        log_keeps = k.rule.step.goes.log_keeps;
+        rises = k.rule.step.goes.rises;
+        metadata_adds = k.rule.step.goes.metadata_adds;
+        log_adds = k.rule.step.goes.log_adds;
+        sent_by = k.rule.step.goes.sent_by;
+        then = k.rule.step.goes.then;
+        asked = tt;
+      };
+      seen = k.rule.seen;
+      read = k.read;
+      on_either = k.on_either;
+      observed = k.observed;
+    }
 
     -- a rule of the range, with this split beside it
     pub done_beside : (by : IsSentBy d d.count z.m_sent z.l_sent) (v : RangeView) (o : RangeOutcome) (actions : List StreamAction) (job : Option SplitJob) → Done v o actions →

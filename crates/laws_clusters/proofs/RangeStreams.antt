@@ -18,9 +18,12 @@ use Rattle.model_partition.specs.Splits.{all_streams}
 use Rattle.model_histories.specs.ServerRun.{stream_named}
 use Rattle.laws_stream_machine.specs.Refinement.{IsThere}
 use Rattle.laws_stream_machine.proofs.BuiltStreams.{NobodyAsked, IsAbsent}
-use Rattle.laws_clusters.proofs.AbsentStreams.{AllStay}
 
 -- ---- streams that are there
+
+-- no stream goes
+abbrev pub AllStay : StreamSystem → StreamSystem → Type 0
+AllStay w v = (name : StreamName) → IsThere w name → IsThere v name
 
 -- all streams of a range are there
 abbrev pub HasStreams : StreamSystem → ℕ → Type 0

@@ -255,29 +255,12 @@ module _ (batch count : ℕ) (c : Cluster) (x : Originates c) (coming : List Ser
     rules (Deliver number) = λ p at names. gives_names _ (map_gives c.map (seen c) x.entries p p.body (asked_unmerged p (contains_get c.stream_layer.post number p at)))
     rules (Assign range server until) = gives_names _ (assign_gives c.map (seen c) x.entries range server until (range_at c.map.ranges range) refl)
     rules (Renew range server until) = gives_names _ (renew_gives c.map (seen c) x.entries range server until (range_at c.map.ranges range) refl)
-    rules (Submit user to body) = tt
-    rules (Stop actor call keep) = tt
-    rules (Restart actor) = tt
-    rules (Decide e) = tt
-    rules (GiveUp server range pick) = tt
-    rules (MomentTold now) = tt
-    rules (Checkpoint server range combine) = tt
-    rules (Split server range key) = tt
-    rules (Merge server left right) = tt
+    rules event = tt
 
     asked : (event : Event) → IsUnmerged event → AskedIn (λ a. origins h) c event
     asked (Split s range key) is = λ cell at st up r sent. tt
-    asked (Submit user to body) is = tt
-    asked (Deliver number) is = tt
-    asked (Stop actor call keep) is = tt
-    asked (Restart actor) is = tt
-    asked (Decide e) is = tt
-    asked (GiveUp server range pick) is = tt
-    asked (Assign range server until) is = tt
-    asked (Renew range server until) is = tt
-    asked (MomentTold now) is = tt
-    asked (Checkpoint server range combine) is = tt
     asked (Merge server left right) is = absurd is
+    asked event is = tt
 
   pub event_originates : (event : Event) → IsUnmerged event → Originates (cluster_after c event)
   event_originates event is =

@@ -1,5 +1,5 @@
 -- Packets that leave each stream as it is: what servers and the map tell, and requests to build the streams of a split.
-use Rattle.std.proofs.Common.{◌≡◌, ◌⊎◌, ℕ, zero, suc, true, false, List, [], ◌∷◌, Some, Contains, refl, sym, ap, ◌∙◌, subst, inl, inr, arith}
+use Rattle.std.proofs.Common.{◌≡◌, ◌⊎◌, ℕ, zero, suc, true, false, List, [], ◌∷◌, Contains, refl, sym, ap, ◌∙◌, subst, inl, inr, arith}
 use Rattle.wire.specs.declared.actor.ActorId.TheVariants.{Server}
 use Rattle.wire.specs.declared.actor.ReqNo.{ReqNo}
 use Rattle.wire.specs.declared.body.AppendBody.TheVariants as appends
@@ -15,7 +15,7 @@ use Rattle.model_partition.specs.declared.split_job.SplitJob.{SplitJob}
 use Rattle.model_partition.specs.Splits.{all_streams}
 use Rattle.model_histories.specs.StreamMachine.{MachineState}
 use Rattle.laws_servers.specs.Sending.{MaySend, MaySendAll}
-use Rattle.laws_stream_machine.specs.Refinement.{Sent, IsThere, asked_number, IsAsked}
+use Rattle.laws_stream_machine.specs.Refinement.{Sent, IsThere, IsAsked}
 use Rattle.laws_clusters.proofs.RangeStreams.{IsOfSplit, LeavesAlone, told_alone}
 
 -- a server asks to build the streams of a split
@@ -64,17 +64,6 @@ told_plain generation u body told name m sent = absurd cc
 pub said_plain : (generation : ℕ → ℕ) (w u : StreamSystem) (p : Packet) → IsSaid w p → (name : StreamName) → IsThere u name → (m : MachineState Group) (sent : List Sent) → IsAsked generation name u m sent p.body
 said_plain generation w u p (inl told) name there m sent = told_plain generation u p.body told name m sent
 said_plain generation w u p (inr b) name there m sent = subst (λ (body : Body). IsAsked generation name u m sent body) (sym b.body) (λ x among same. there)
-
-told_unasked : (body : Body) → is_told body ≡ true → (q : ReqNo) → asked_number body ≡ Some q → ⊥
-told_unasked (bodies.Map body) told q is = cc
-told_unasked (bodies.Table body) told q is = cc
-told_unasked (bodies.Append (appends.Refused v why)) told q is = cc
-told_unasked (bodies.Append body) told q is = cc
-told_unasked body told q is = cc
-
-pub said_unasked : (w : StreamSystem) (p : Packet) → IsSaid w p → (q : ReqNo) → asked_number p.body ≡ Some q → ⊥
-said_unasked w p (inl told) q is = told_unasked p.body told q is
-said_unasked w p (inr b) q is = let c = sym (ap asked_number b.body) ∙ is in cc
 
 pub said_alone : (w : StreamSystem) (name : StreamName) (p : Packet) → IsSaid w p → LeavesAlone name p.body
 said_alone w name p (inl told) = told_alone name p.body told

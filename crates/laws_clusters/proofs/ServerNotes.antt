@@ -1,5 +1,5 @@
 -- What of the observations servers showed: the map shows splits and merges, and nothing else.
-use Rattle.std.proofs.Common.{◌≡◌, true, List, [], ◌∷◌, ◌++◌, refl, sym, ap, ◌∙◌, append-nil}
+use Rattle.std.proofs.Common.{◌≡◌, true, List, [], ◌∷◌, ◌++◌, refl, ap, ◌∙◌, append-nil}
 use Rattle.wire.specs.declared.note.Note.{Note}
 use Rattle.wire.specs.declared.note.Note.TheVariants.{Split, Merged}
 use Rattle.model_streams.specs.StreamSystem.{is_table_note}
@@ -40,13 +40,3 @@ none_served (o ∷ h) changes = absurd changes.0
 -- servers show nothing by them
 pub changes_served : (h more : List Note) → AreChanges more → server_notes (h ++ more) ≡ server_notes h
 changes_served h more changes = served-append h more ∙ ap (λ l. server_notes h ++ l) (none_served more changes) ∙ append-nil (server_notes h)
-
--- ---- none of them
-
--- no range was split, and none merged
-abbrev pub IsUnchanged : List Note → Type 0
-IsUnchanged h = server_notes h ≡ table_notes h
-
-pub unchanged_both : (h more : List Note) → IsUnchanged h → IsUnchanged more → IsUnchanged (h ++ more)
-unchanged_both h more one two =
-    served-append h more ∙ ap (λ l. l ++ server_notes more) one ∙ ap (λ l. table_notes h ++ l) two ∙ sym (others-append h more)

@@ -33,10 +33,11 @@ use Rattle.wire.specs.declared.refusal.Refusal.{Refusal}
 use Rattle.wire.specs.declared.actor.ReqNo.TheVariants as requests
 use Rattle.client.specs.Client.{awaits}
 use Rattle.model_partition.specs.Cluster.{Cluster, servers_perform}
+use Rattle.model_partition.specs.declared.split_job.Side.{Side as SplitSide}
 use Rattle.model_partition.specs.declared.split_job.SplitJob.{SplitJob}
 use Rattle.model_partition.specs.Getting.{get_rule}
 use Rattle.model_partition.specs.Range.{RangeState, RangeOutcome, request, refuses, waiting_out, is_serving, is_paused}
-use Rattle.model_partition.specs.Splits.{SplitStep, phase_awaits, split_fault, split_rule}
+use Rattle.model_partition.specs.Splits.{SplitStep, side_range, phase_awaits, split_fault, split_rule}
 use Rattle.model_partition.specs.Map.{is_split_key}
 use Rattle.model_streams.proofs.Tests.{none_met}
 use Rattle.laws_ranges.proofs.Stages.{serving_only}
@@ -66,20 +67,20 @@ use Rattle.laws_map.specs.Naming.{IsAbove, IsRising}
 use Rattle.laws_map.proofs.Rising.{awaits_itself}
 use Rattle.laws_server_runs.proofs.Unmerged.{HasNoMerge, HaveNoMerges, stepped_unmerged, given_up_unmerged, assigned_unmerged, answer_unmerged, unawaited_merge, jobs_unmerged}
 use Rattle.laws_clusters.proofs.UnsplitSteps.{transact_effect_alone, get_effect_alone, answer_effect_alone, stepped_alone_is, answer_alone, given_up_alone}
-use Rattle.laws_server_runs.proofs.Unsplit.{not_refused}
+use Rattle.laws_server_runs.proofs.RunSteps.{not_refused}
 use Rattle.laws_server_runs.proofs.RangeLists.{inserted_here, inserted_other, ascending_inserted, dropped_here, dropped_other, left_here, left_other, ascending_left}
 use Rattle.laws_clusters.proofs.OtherEvents.{told_nothing, refuses_stands, renew_stands, rule_done, run_done, rests_quiet, quiet_stands, picks_stand, still_runs, StandsAfter, nobody_stands, cell_stands}
-use Rattle.laws_clusters.proofs.RangeRules.{Done, Acted, done_alone, both, transact_done, get_done, give_up_done, checkpoint_done, answer_done, assigned_done}
+use Rattle.laws_clusters.proofs.RangeRules.{Done, Acted, turned, done_alone, both, transact_done, get_done, give_up_done, checkpoint_done, answer_done, assigned_done}
 use Rattle.laws_clusters.proofs.RangeActions.{SeesBytes}
 use Rattle.laws_clusters.proofs.Senders.{none_from_map}
 use Rattle.laws_clusters.proofs.MapWords.{IsFounded, IsWord, IsMapWord}
-use Rattle.laws_clusters.proofs.Invariant.{HeldAt, Machines, here, m_side, l_side, Holds, IsHeld, Runs, Standing, OfRows, Out, Bases}
+use Rattle.laws_clusters.proofs.Invariant.{HeldAt, SplitAt, IsMaking, AreAside, IsFirm, Machines, here, m_side, l_side, Holds, IsHeld, Runs, Standing, OfRows, Out, Bases}
 use Rattle.laws_clusters.proofs.ServerNumbers as numbers
 use Rattle.laws_clusters.proofs.ServerRules as steps
 use Rattle.laws_clusters.proofs.SplitServers as splits
-use Rattle.laws_clusters.proofs.SplitServers.{SplitsOwed, LeavingOwed, none_leaving}
+use Rattle.laws_clusters.proofs.SplitServers.{SplitsOwed, LeavingOwed}
 use Rattle.laws_clusters.proofs.ServerRules.{IsLaid, AreLaid, laid_behind}
-use Rattle.laws_clusters.proofs.StepShapes.{AreLeft, RowsWaited, StepWaits}
+use Rattle.laws_clusters.proofs.StepShapes.{AreLeft, RowsWaited, StepWaits, own_incarnations}
 use Rattle.laws_clusters.proofs.ClientJobs.{AsksBy, ReadsNothing}
 use Rattle.laws_clusters.proofs.RowPurposes.{rows_unread}
 use Rattle.laws_clusters.proofs.RowRules.{AllIn, RowsFrom, LeavesRows, RowsIf, in_both, users_in, transact_leaves, get_leaves, checkpoint_leaves, answer_leaves, give_up_leaves}
@@ -167,19 +168,24 @@ module _ (generation : ℕ → ℕ) (plenty : (g n : ℕ) → (i : ℕ) × (n �
         | inr never ↦ absurd never
       ]
 
+      -- the range is none of the two of a split there
+      abbrev IsNoSide : Type 0
+      IsNoSide = (k : ℕ) (other : SplitJob) → SplitAt c.servers s k other → (k ≡ range → ⊥) → IsMaking other.phase → IsFirm generation base s k → (side : SplitSide) → side_range other side ≡ range → ⊥
+
       -- and leaves this
-      done_good : split_of st.splits range ≡ None → (i : ℕ) → ((t j : ℕ) → x.incarnation t j ≡ Some i → (t ≡ s) × (j ≡ range)) → BeganAt ((y.history s range).append kinds.Metadata) ((after_all Group generation z.m).phase i) →
+      done_good : IsNoSide → split_of st.splits range ≡ None → (i : ℕ) → ((t j : ℕ) → x.incarnation t j ≡ Some i → (t ≡ s) × (j ≡ range)) → BeganAt ((y.history s range).append kinds.Metadata) ((after_all Group generation z.m).phase i) →
           BeganAt ((y.history s range).append kinds.Log) ((after_all Group generation z.l).phase i) → (o : RangeOutcome) (actions : List StreamAction) →
           Done generation nodes target c y x range founded i st.context (view_at range y s) o actions → AllFromRanges o.packets → StepWaits st range (alone_step o) o.packets →
           (o.after ≡ None → (p : Packet) → Contains o.packets p → (q : ReqNo) → used_number p.body ≡ Some q → asked_number p.body ≡ Some q) →
           (after : ServerState) → after.context ≡ record st.context { count = o.count } → AreLeft st.ranges after.ranges range o.after → after.splits ≡ st.splits →
           Good (Does range (generation i) actions) (record { after = after; packets = o.packets; notes = o.notes })
-      done_good unsplit i alone record_began began o actions k senders waits gone after context_is shape splits =
+      done_good aside unsplit i alone record_began began o actions k senders waits gone after context_is shape splits =
           let acted : Acted generation nodes target c y x range founded i st.context (view_at range y s) (alone_step o) actions = done_alone generation nodes target c y x range founded i st.context by (view_at range y s) o actions k in
-          λ laid. steps.stepped generation nodes target c y x s cell st at is range founded i alone y same_run record_began began (alone_step o) o.notes actions acted o.packets (may_send_all o.packets (from_servers o.packets senders)) waits acted.rule.step.asked (λ none. refl) gone
+          λ laid. steps.stepped generation nodes target c y x s cell st at is range founded i y same_run record_began began (alone_step o) o.notes actions (turned generation nodes target c y x range founded i st.context (view_at range y s) (alone_step o) actions acted) o.packets (may_send_all o.packets (from_servers o.packets senders)) waits acted.rule.step.asked (λ none. refl) gone
           (no_lists i o.after (m_then i y (alone_step o) actions acted) (l_then i y (alone_step o) actions acted) o.packets acted.rule.step.asked)
           (none_from_map o.packets (from_servers o.packets senders)) after context_is shape
-          (record { ascending = subst (λ l. AreAscending l) (sym splits) run.splits_ascending; here = ap (λ l. split_of l range) splits ∙ unsplit; others = λ j apart. ap (λ l. split_of l j) splits }) laid
+          (record { ascending = subst (λ l. AreAscending l) (sym splits) run.splits_ascending; here = ap (λ l. split_of l range) splits ∙ unsplit; others = λ j apart. ap (λ l. split_of l j) splits })
+          (own_incarnations x.incarnation x.bound s range i x.own x.below alone o.after) aside (λ next is_next later none. absurd (let e : None ≡ Some later = none in cc)) laid
 
       -- ---- it is taken
 
@@ -221,6 +227,23 @@ module _ (generation : ℕ → ℕ) (plenty : (g n : ℕ) → (i : ℕ) × (n �
           others = λ j apart. inserted_other st.ranges range next j apart;
         }
 
+        abbrev begun_cell : ServerCell
+        begun_cell = record cell { state = Some (opened st range (generation i) until) }
+
+        -- what is taken is none of the two of a split there
+        begun_aside : AreAside (slice_set c.servers (s - 1) begun_cell) → IsNoSide
+        begun_aside aside k other split apart making firm side same =
+            aside.unheld s k other (record { cell = begun_cell; state = opened st range (generation i) until; there = entry_set c.servers s cell begun_cell at; up = refl; found = dropped_other st.splits range k apart ∙ was }) making side next
+            (record { cell = begun_cell; state = opened st range (generation i) until; there = entry_set c.servers s cell begun_cell at; up = refl; found = subst (λ j. range_of (opened st range (generation i) until).ranges j ≡ Some next) (sym same) (inserted.there next refl) })
+          where
+            was : split_of st.splits k ≡ Some other
+            was =
+                let cells : Some cell ≡ Some split.cell = sym at ∙ split.there in
+                let cell_is : cell ≡ split.cell = cc in
+                let states : Some st ≡ Some split.state = sym is ∙ ap (λ (z : ServerCell). z.state) cell_is ∙ split.up in
+                let same : st ≡ split.state = cc in
+                ap (λ (z : ServerState). split_of z.splits k) same ∙ split.found
+
         taken_good : Good (Begins range) (record { after = opened st range (generation i) until; packets = users_of st.context known ++ open_packet st.context.server range (generation i) (request st.context) ∷ []; notes = [] })
         taken_good =
             let acted : Acted generation nodes target c y x range founded i st.context (view_at range begun s) (alone_step o) [] = done_alone generation nodes target c y x range founded i st.context by (view_at range begun s) o [] k in
@@ -241,11 +264,12 @@ module _ (generation : ℕ → ℕ) (plenty : (g n : ℕ) → (i : ℕ) × (n �
             split_joined generation range i w o.after None a b (users_of st.context known) o.packets
             (asked_widely generation range w i o.after None a b (users_of st.context known)
             (asked_of_both generation range w i (both generation nodes target c y x range founded) o.after a b acted.rule.step.goes.sent_by.apart (users_of st.context known) (users_plain (log_of range) b.stand b.sent known))) acted.rule.step.asked in
-            λ laid. steps.stepped generation nodes target c y x s cell st at is range founded i (fresh_alone i free) begun near (fresh_recorded i ((begun.history s range).append kinds.Metadata) free) (fresh_began i ((begun.history s range).append kinds.Log) free) (alone_step o) [] [] acted
+            λ laid. steps.stepped generation nodes target c y x s cell st at is range founded i begun near (fresh_recorded i ((begun.history s range).append kinds.Metadata) free) (fresh_began i ((begun.history s range).append kinds.Log) free) (alone_step o) [] [] (turned generation nodes target c y x range founded i st.context (view_at range begun s) (alone_step o) [] acted)
             ps (may_send_all ps (from_servers ps senders)) waits asked (λ none. refl) (λ none. absurd (let never : Some next ≡ None = none in cc)) (no_lists i o.after a b ps asked)
             (none_from_map ps (from_servers ps senders))
             (opened st range (generation i) until) refl inserted
-            (record { ascending = ascending_left st.splits range None run.splits_ascending; here = dropped_here st.splits range run.splits_ascending; others = λ j apart. dropped_other st.splits range j apart }) laid
+            (record { ascending = ascending_left st.splits range None run.splits_ascending; here = dropped_here st.splits range run.splits_ascending; others = λ j apart. dropped_other st.splits range j apart })
+            (own_incarnations x.incarnation x.bound s range i x.own x.below (fresh_alone i free) (Some next)) (begun_aside laid.aside) (λ n is_next later none. absurd (let e : None ≡ Some later = none in cc)) laid
 
       -- the server begins the load, under this generation, and is left so
       abbrev loads : Option RangeState → ServerState → ℕ → ServerOutcome
@@ -316,6 +340,9 @@ module _ (generation : ℕ → ℕ) (plenty : (g n : ℕ) → (i : ℕ) × (n �
           from next (inl (inr same)) stream q waits = inl (r, found, record { job = same.0; group = same.1; stream = stream })
           from next (inr fresh) stream q waits = inr (fresh q waits)
 
+      none_side : (k : ℕ) (other : SplitJob) → SplitAt c.servers s k other → (k ≡ range → ⊥) → IsMaking other.phase → IsFirm generation base s k → (side : SplitSide) → side_range other side ≡ range → ⊥
+      none_side k other split apart making firm side same = x.aside.unheld s k other split making side r (subst (λ j. HeldAt c.servers s j r) (sym same) held_here)
+
       -- a range that is dropped tells its users alone
       gone_asks : (o : RangeOutcome) → LeavesRows st.context r.rows o → o.after ≡ None → (p : Packet) → Contains o.packets p → (q : ReqNo) → used_number p.body ≡ Some q → asked_number p.body ≡ Some q
       gone_asks o left gone p there q number =
@@ -326,7 +353,7 @@ module _ (generation : ℕ → ℕ) (plenty : (g n : ℕ) → (i : ℕ) × (n �
           Good (Does range r.load.generation actions) (stepped_alone st range o)
       alone_good o actions k senders left =
           subst (λ g. Good (Does range g actions) (stepped_alone st range o)) (sym h.follows.under)
-          (done_good range founded_held unsplit i alone h.record_append h.append o actions k senders (rows_after o actions k left) (gone_asks o left) (stepped_alone st range o).after refl
+          (done_good range founded_held none_side unsplit i alone h.record_append h.append o actions k senders (rows_after o actions k left) (gone_asks o left) (stepped_alone st range o).after refl
           (record {
             ascending = ascending_left st.ranges range o.after run.ascending;
             here = λ u there. sym (left_here st.ranges range r o.after run.ascending found) ∙ there;
@@ -486,7 +513,7 @@ module _ (generation : ℕ → ℕ) (plenty : (g n : ℕ) → (i : ℕ) × (n �
 
         hear_split : (p : Packet) → Contains c.stream_layer.post p → p.to ≡ Server s → Contains w.post (packet p.from (Server s) p.body) → is_answerer p.from p.body ≡ true → (v : ReqNo) → answered_number p.body ≡ Some v → phase_awaits job.phase v ≡ true →
             Good (split_effect_in st p (Some r) (Some job)) (split_answer_in st p range (Some r) (Some job))
-        hear_split p sent to there gives v number waits = splits.reply_good generation nodes target c y x s cell st at is range r found job was p there gives v number waits (owed.hears range r found job was p sent to v number waits)
+        hear_split p sent to there gives v number waits = splits.reply_good generation nodes target c y x s cell st at is range r found job was p there gives v number waits (owed.hears range r found job was p sent to gives v number waits)
 
       -- ---- what a server takes
 
@@ -652,11 +679,6 @@ module _ (generation : ℕ → ℕ) (plenty : (g n : ℕ) → (i : ℕ) × (n �
     abbrev pub OwedPicked : Type 0
     OwedPicked = (cell : ServerCell) (st : ServerState) (at : entry_at c.servers s ≡ Some cell) (is : cell.state ≡ Some st) →
         LeavingOwed generation nodes target (picked_cluster cell st) (picked_run cell st) (picked_stands cell st at is) s (picked_cell cell st) (picked st pick) (picked_at cell st at) refl
-
-    -- nothing, where none is
-    pub none_picked : ((cell : ServerCell) (st : ServerState) → entry_at c.servers s ≡ Some cell → cell.state ≡ Some st → st.splits ≡ []) → OwedPicked
-    none_picked none cell st at is =
-        none_leaving generation nodes target (picked_cluster cell st) (picked_run cell st) (picked_stands cell st at is) s (picked_cell cell st) (picked st pick) (picked_at cell st at) refl (none cell st at is)
 
     abbrev GaveUp : ServersOutcome → ServersOutcome → Type 0
     GaveUp o seen = IsLaid (with_outcome y seen) → Standing generation nodes target base (servers_perform c o) (with_outcome y seen)

@@ -1,7 +1,6 @@
 -- A cluster stands on where a server does a rule of one of its ranges.
-use Rattle.std.proofs.Common.{◌≡◌, ◌⊎◌, ⊎_elim, ℕ, suc, ◌+◌, ◌-◌, ◌≤◌, ◌<◌, Bool, true, false, List, [], ◌++◌, Option, Some, None, Contains, slice_set, refl, sym, ap, ◌∙◌, subst, inl, inr, arith, if◌then◌else◌, ◌==◌, ◌&&◌}
+use Rattle.std.proofs.Common.{◌≡◌, ◌⊎◌, ⊎_elim, ℕ, suc, ◌+◌, ◌-◌, ◌≤◌, ◌<◌, true, false, List, [], ◌++◌, Option, Some, None, Contains, slice_set, refl, sym, ap, ◌∙◌, subst, inl, inr, arith, if◌then◌else◌, ◌==◌, ◌&&◌}
 use Rattle.std.proofs.lemmas.Bool.{cases_eq}
-use Rattle.std.proofs.lemmas.Bool.Decides.{nat_tests}
 use Rattle.std.proofs.lemmas.List.Elements.{Contains-append_cases}
 use Rattle.wire.specs.declared.actor.ActorId.{ActorId}
 use Rattle.wire.specs.declared.actor.ActorId.TheVariants.{Map, Server}
@@ -24,9 +23,11 @@ use Rattle.model_streams.specs.StreamSystem.{StreamSystem, Move}
 use Rattle.model_partition.specs.declared.server_context.ServerContext.{ServerContext}
 use Rattle.model_partition.specs.Cluster.{Cluster}
 use Rattle.model_partition.specs.Past.{Bytes}
+use Rattle.model_partition.specs.declared.split_job.Side.{Side as SplitSide}
 use Rattle.model_partition.specs.declared.split_job.SplitJob.{SplitJob}
+use Rattle.model_partition.specs.declared.split_job.SplitPhase.{SplitPhase}
 use Rattle.model_partition.specs.declared.table_note.TableNote.{TableNote}
-use Rattle.model_partition.specs.Splits.{SplitStep}
+use Rattle.model_partition.specs.Splits.{SplitStep, side_range}
 use Rattle.model_partition.specs.Range.{RangeState, RangeOutcome}
 use Rattle.model_histories.specs.ServedTables.{AreSeenAs, StreamsInOrder}
 use Rattle.model_partition.specs.Server.{ServerState, range_of, split_of}
@@ -41,17 +42,21 @@ use Rattle.laws_loads.proofs.Entries.{entry_set, entry_other}
 use Rattle.laws_stream_machine.specs.Refinement.{Purpose, Sent, purpose_of, asked_number, IsAt, IsUnsealedAt}
 use Rattle.laws_ranges.specs.Seen.{BeganAt, SeesStories}
 use Rattle.laws_ranges.specs.Serves.{Side, metadata_of, log_of, rows_of, AsksOfRows, IsForRows, IsAside, Adds, AreUnused, BothGo}
-use Rattle.laws_ranges.specs.SplitJobs.{waits_seal, waits_call, FollowsBoth, FollowsBothIf, IsForSplit, AskedOfSplit, silent}
+use Rattle.laws_ranges.specs.SplitJobs.{waits_seal, waits_call, FollowsBoth, FollowsBothIf, AreOthers, IsForSplit, AskedOfSplit}
 use Rattle.laws_ranges.proofs.SplitsKept.{both_row_data, seal_aside}
 use Rattle.laws_ranges.proofs.TurnsAsMoves.{moves_of}
 use Rattle.laws_server_runs.specs.RunInvariant.{view_at}
 use Rattle.laws_server_runs.proofs.Actions.{same_test, other_test, actions_here, actions_apart, actions_bytes, actions_rest}
+use Rattle.laws_log_reads.specs.Reads.{HasReadIf}
 use Rattle.laws_servers.specs.Sending.{MaySendAll}
 use Rattle.laws_server_runs.specs.Places.{bytes_of}
-use Rattle.laws_clusters.proofs.Invariant.{SeesAll, IsOther, HeldAt, SplitAt, Waiter, OfRows, OfSeal, OfCall, Waits, IsOfExtents, AskedBy, IsSplitAsk, Machines, HasNumber, HasNone, AllOut, AreDistinct, IsIdle, IsBeside, AreBeside, here, m_side, l_side, Holds, IsHeld, Runs, Standing, Bases}
+use Rattle.laws_clusters.proofs.StepKeys.{keys_after}
+use Rattle.laws_clusters.proofs.BlobRequests.{blob_aside}
+use Rattle.laws_clusters.proofs.StepServers as left
+use Rattle.laws_clusters.proofs.Invariant.{IsMaking, ExtendNoBlobs, IsFirm, KeysStand, SeesAll, IsOther, HeldAt, SplitAt, Waiter, OfRows, OfSeal, OfCall, Waits, IsOfExtents, AskedBy, IsSplitAsk, Machines, HasNumber, HasNone, AllOut, AreDistinct, IsIdle, IsBeside, AreBeside, here, m_side, l_side, Holds, IsHeld, Runs, Standing, Bases}
 use Rattle.laws_clusters.proofs.ObservedBytes.{AreObserved, observed_on, observed_both, before_tells, seen_all}
 use Rattle.laws_clusters.proofs.MapWords.{IsFounded, IsWord}
-use Rattle.laws_clusters.proofs.OtherRanges.{noted_keeps, onward_same, holds_on, held_on, own_if}
+use Rattle.laws_clusters.proofs.OtherRanges.{noted_keeps, onward_same, holds_on, held_on, own_holds}
 use Rattle.laws_clusters.proofs.RangeActions.{actions_aside, actions_say}
 use Rattle.laws_clusters.proofs.Copies.{AllSay}
 use Rattle.laws_clusters.proofs.GrownLists.{GrewFrom, grew_on}
@@ -60,14 +65,14 @@ use Rattle.laws_clusters.proofs.RowRules.{AsksIn}
 use Rattle.laws_clusters.proofs.ClientJobs.{AsksBy}
 use Rattle.laws_clusters.proofs.RowPurposes.{rows_aside, own_asks, rows_request}
 pub use Rattle.laws_clusters.proofs.StepShapes.{IsNear, IsLaid, AreLaid, laid_behind, plain_laid}
-use Rattle.laws_clusters.proofs.StepShapes.{same_value, has_number, has_none, has_not, all_else, AreLeft, SplitsLeft, keep_asks, RowsWaited, SealWaited, CallWaited, StepWaits, below_next, other_range, other_server, with_one, one_here, one_other, whose, own_with_one}
+use Rattle.laws_clusters.proofs.StepShapes.{by_one, by_if, same_value, has_number, has_none, has_not, all_else, AreLeft, SplitsLeft, keep_asks, RowsWaited, SealWaited, CallWaited, StepWaits, below_next, other_range, other_server, Incarnations}
 use Rattle.laws_clusters.proofs.RowSteps.{same_asks, IsNew, WaitedBefore, Steady, StepOfWaits, all_out}
 use Rattle.laws_clusters.proofs.SplitRequests.{SplitSends, IsRequestOf, sent_in, in_used, in_asks, sends_asks, sends_waits, one_answer, known_by, seal_waits, sends_rows, asks_rows, no_request}
 use Rattle.laws_clusters.proofs.ServerNotes.{server_notes}
 use Rattle.laws_clusters.proofs.ServerNumbers as numbers
 use Rattle.laws_clusters.proofs.StreamOrders.{in_order}
-use Rattle.laws_clusters.proofs.RangeRules.{metadata_below, log_below, Acted}
-use Rattle.laws_clusters.proofs.RangeSteps.{m_after, l_after, machines_after, m_side_is, l_side_is, others_steady, goes_onward, goes_on}
+use Rattle.laws_clusters.proofs.RangeRules.{metadata_below, log_below, outcome_of, Turned}
+use Rattle.laws_clusters.proofs.RangeSteps.{IsSteady, IsOnward, m_after, l_after, machines_after, m_side_is, l_side_is, others_steady, goes_onward, goes_on}
 use Rattle.laws_clusters.proofs.StreamMachines.{Further, all_told}
 use Rattle.laws_clusters.proofs.Elsewhere.{RowsRequest, AreRowsElse, all_elsewhere, all_alone}
 use Rattle.laws_stream_machine.proofs.LowerLayer.{below_alone}
@@ -84,30 +89,35 @@ module _ (generation : ℕ → ℕ) (nodes target : ℕ) where
     not_used : (k : ℕ) → st.context.count ≤ k → IsPast c.servers (requests.Server st.context.server st.context.session k) → ⊥
     not_used = numbers.not_used generation nodes target c y x s cell st at is
 
-    module _ (range : ℕ) (founded : IsFounded c.stream_layer range) (i : ℕ) (alone : (t j : ℕ) → x.incarnation t j ≡ Some i → (t ≡ s) × (j ≡ range)) (b : ServerRun) (near : IsNear s range y b)
+    module _ (range : ℕ) (founded : IsFounded c.stream_layer range) (i : ℕ) (b : ServerRun) (near : IsNear s range y b)
         (record_began : BeganAt ((b.history s range).append kinds.Metadata) ((after_all Group generation (x.machines range).m).phase i))
         (began : BeganAt ((b.history s range).append kinds.Log) ((after_all Group generation (x.machines range).l).phase i)) (t : SplitStep) (notes : List TableNote) (actions : List StreamAction)
-        (k : Acted generation nodes target c y x range founded i st.context (view_at range b s) t actions) (ps : List Packet) (may : MaySendAll ps)
+        (k : Turned generation nodes target c y x range founded i st.context (view_at range b s) t actions) (ps : List Packet) (may : MaySendAll ps)
         (waits : StepWaits st range t ps)
-        (asked : AskedOfSplit generation range w i t.range t.job (m_after generation nodes target x.moves range (x.machines range) i st.context (silent t) (FollowsBothIf generation range w i t.job) k.rule.step.goes)
-        (l_after generation nodes target x.moves range (x.machines range) i st.context (silent t) (FollowsBothIf generation range w i t.job) k.rule.step.goes) ps)
+        (asked : AskedOfSplit generation range w i t.range t.job (m_after generation nodes target x.moves range (x.machines range) i st.context (outcome_of k.left t) (λ after n j. FollowsBothIf generation range w i t.job t.range n j) k.goes)
+        (l_after generation nodes target x.moves range (x.machines range) i st.context (outcome_of k.left t) (λ after n j. FollowsBothIf generation range w i t.job t.range n j) k.goes) ps)
         -- where it is dropped, so is its split, and nothing is asked of the map and built
         (ends : t.range ≡ None → t.job ≡ None) (gone : t.range ≡ None → (p : Packet) → Contains ps p → (q : ReqNo) → used_number p.body ≡ Some q → asked_number p.body ≡ Some q)
         -- what is built is of a split
         (lists : (server : ℕ) (to : ActorId) (list : List Modify) (q : ReqNo) → Contains ps (packet (Server server) to (bodies.Stream (streams.MultiModify list q))) → (m : Modify) → Contains list m → IsOfSplit c.stream_layer list)
         (senders : (p : Packet) → Contains ps p → p.from ≡ Map → ⊥)
-        (after : ServerState) (context_is : after.context ≡ record st.context { count = t.count }) (shape : AreLeft st.ranges after.ranges range t.range) (split_shape : SplitsLeft st.splits after.splits range t.job) where
+        (after : ServerState) (context_is : after.context ≡ record st.context { count = t.count }) (shape : AreLeft st.ranges after.ranges range t.range) (split_shape : SplitsLeft st.splits after.splits range t.job)
+        -- whose incarnation it is, and the range is none of the two of another split there
+        (these : Incarnations x.incarnation x.bound s range i t.range)
+        (apart : (k : ℕ) (job : SplitJob) → SplitAt c.servers s k job → (k ≡ range → ⊥) → IsMaking job.phase → IsFirm generation base s k → (side : SplitSide) → side_range job side ≡ range → ⊥)
+        -- the two ranges of its own split stand so
+        (own_keys : (next : RangeState) → t.range ≡ Some next → (later : SplitJob) → t.job ≡ Some later → IsFirm generation base s range → KeysStand generation nodes target x.moves x.machines (y.history s) i next later later.phase) where
       abbrev z : Machines generation
       z = x.machines range
 
       abbrev o : RangeOutcome
-      o = silent t
+      o = outcome_of k.left t
 
       abbrev Then : Option RangeState → Side → Side → Type 0
-      Then = FollowsBothIf generation range w i t.job
+      Then after n j = FollowsBothIf generation range w i t.job t.range n j
 
       abbrev goes : BothGo generation range w i Then (m_side generation z i) (l_side generation z i) st.context o
-      goes = k.rule.step.goes
+      goes = k.goes
 
       -- the machines of the range after the rule, and where the incarnation stands then
       abbrev new : Machines generation
@@ -157,11 +167,7 @@ module _ (generation : ℕ → ℕ) (nodes target : ℕ) where
 
       -- what is so of the range, and of each other
       by_range : (P : ℕ → Machines generation → Type 0) → P range new → ((j : ℕ) → (j ≡ range → ⊥) → P j (x.machines j)) → (j : ℕ) → P j (next_machines j)
-      by_range P own others j = go (j == range) refl
-        where
-          go : (t : Bool) → (j == range) ≡ t → P j (if t then new else x.machines j)
-          go true e = let same : range ≡ j = grind (arith, nat_tests) in subst (λ n. P n new) same own
-          go false e = others j (λ same. grind (arith, nat_tests))
+      by_range = by_if range new x.machines
 
       -- ---- numbers
 
@@ -304,48 +310,19 @@ module _ (generation : ℕ → ℕ) (nodes target : ℕ) where
       -- ---- what is held afterwards
 
       abbrev Away : ℕ → ℕ → Type 0
-      Away t k = (t ≡ s) → (k ≡ range) → ⊥
-
-      state_is : (u : ServerCell) (v : ServerState) → entry_at next_servers s ≡ Some u → u.state ≡ Some v → after ≡ v
-      state_is u v there up =
-          let found_cell : Some next_cell ≡ Some u = sym (entry_set c.servers s cell next_cell at) ∙ there in
-          let cell_is : next_cell ≡ u = cc in
-          let state : Some after ≡ Some v = ap (λ (z : ServerCell). z.state) cell_is ∙ up in
-          cc
+      Away u k = left.Away c.servers s cell st at is range t.range t.job after shape split_shape u k
 
       own_range : (r : RangeState) → HeldAt next_servers s range r → t.range ≡ Some r
-      own_range r h = shape.here r (ap (λ (z : ServerState). range_of z.ranges range) (state_is h.cell h.state h.there h.up) ∙ h.found)
+      own_range = left.own_range c.servers s cell st at is range t.range t.job after shape split_shape
 
       own_split : (job : SplitJob) → SplitAt next_servers s range job → t.job ≡ Some job
-      own_split job h = sym split_shape.here ∙ ap (λ (z : ServerState). split_of z.splits range) (state_is h.cell h.state h.there h.up) ∙ h.found
+      own_split = left.own_split c.servers s cell st at is range t.range t.job after shape split_shape
 
       held_back : (u k : ℕ) (r : RangeState) → Away u k → HeldAt next_servers u k r → HeldAt c.servers u k r
-      held_back u k r away h = elim (cases_eq u s) [
-        | inl same ↦
-            (let there : entry_at next_servers s ≡ Some h.cell = subst (λ n. entry_at next_servers n ≡ Some h.cell) same h.there in
-            let found : range_of after.ranges k ≡ Some r = ap (λ (z : ServerState). range_of z.ranges k) (state_is h.cell h.state there h.up) ∙ h.found in
-            subst (λ n. HeldAt c.servers n k r) (sym same) (record { cell = cell; state = st; there = at; up = is; found = sym (shape.others k (away same)) ∙ found }))
-        | inr apart ↦ record { cell = h.cell; state = h.state; there = sym (entry_other c.servers s cell next_cell at u apart) ∙ h.there; up = h.up; found = h.found }
-      ]
+      held_back = left.held_back c.servers s cell st at is range t.range t.job after shape split_shape
 
       split_back : (u k : ℕ) (job : SplitJob) → Away u k → SplitAt next_servers u k job → SplitAt c.servers u k job
-      split_back u k job away h = elim (cases_eq u s) [
-        | inl same ↦
-            (let there : entry_at next_servers s ≡ Some h.cell = subst (λ n. entry_at next_servers n ≡ Some h.cell) same h.there in
-            let found : split_of after.splits k ≡ Some job = ap (λ (z : ServerState). split_of z.splits k) (state_is h.cell h.state there h.up) ∙ h.found in
-            subst (λ n. SplitAt c.servers n k job) (sym same) (record { cell = cell; state = st; there = at; up = is; found = sym (split_shape.others k (away same)) ∙ found }))
-        | inr apart ↦ record { cell = h.cell; state = h.state; there = sym (entry_other c.servers s cell next_cell at u apart) ∙ h.there; up = h.up; found = h.found }
-      ]
-
-      others_wait : (u k : ℕ) (by : Waiter) (q : ReqNo) → Away u k → Waits next_servers u k by q → Waits c.servers u k by q
-      others_wait u k OfRows q away (r, h, waits_so) = (r, held_back u k r away h, waits_so)
-      others_wait u k OfSeal q away (job, h, waits_so) = (job, split_back u k job away h, waits_so)
-      others_wait u k OfCall q away (job, h, waits_so) = (job, split_back u k job away h, waits_so)
-
-      others_ask : (u k : ℕ) (by : Waiter) (body : Body) → Away u k → AskedBy c.servers u k by body → AskedBy next_servers u k by body
-      others_ask u k OfRows body away asks = λ r h. asks r (held_back u k r away h)
-      others_ask u k OfSeal body away asks = tt
-      others_ask u k OfCall body away asks = λ job h. asks job (split_back u k job away h)
+      split_back = left.split_back c.servers s cell st at is range t.range t.job after shape split_shape
 
       -- ---- who waits
 
@@ -457,8 +434,8 @@ module _ (generation : ℕ → ℕ) (nodes target : ℕ) where
         from = waited;
         steady = one_steady;
         exclusive = one_waits;
-        others = others_wait;
-        others_ask = λ u k by body away. others_ask u k by body away;
+        others = left.others_wait c.servers s cell st at is range t.range t.job after shape split_shape;
+        others_ask = λ u k by body away. left.others_ask c.servers s cell st at is range t.range t.job after shape split_shape u k by body away;
         aside = λ by extents q own. subst (λ u. HasNone generation u q) (sym new_here) (waits_apart by extents q own);
         asked = now_asked;
         known = λ p there q number. elim (waits_now p q (known_now p there q number)) [
@@ -565,19 +542,23 @@ module _ (generation : ℕ → ℕ) (nodes target : ℕ) where
         | inr now ↦ split_stays c.stream_layer (with_told c.stream_layer ps notes) (λ n stands. stands) list (lists server to list q now m among)
       ]
 
+      all_extends : ExtendNoBlobs (c.stream_layer.post ++ ps)
+      all_extends server to stream fence last pick q there blob =
+          elim (Contains-append_cases c.stream_layer.post ps asks there) [ inl old ↦ x.extends server to stream fence last pick q old blob | inr now ↦ by_case (known_now asks now q refl) (blob_aside generation range w i m_then l_then t.range t.job ps asked asks now stream fence last pick q refl blob) ]
+        where
+          asks : Packet
+          asks = packet (Server server) to (bodies.Stream (streams.Extend stream fence last pick q))
+
+          by_case : Cases asks q → HasNone generation new q → ⊥
+          by_case (inl has) none = has_not generation new q has.0 none
+          by_case (inr (inl (next, has, waits_so, for, in_next, away))) none = let c : kinds.RowData ≡ kinds.BlobData = sym (ap (λ (u : StreamName). u.kind) for) ∙ blob in cc
+          by_case (inr (inr (inl (next, other, has, is_later, waits_so, sends, away)))) none = sends
+          by_case (inr (inr (inr (next, other, has, is_later, waits_so, sends)))) none = sends
+
       -- ---- incarnations
 
       abbrev inc : ℕ → ℕ → Option ℕ
-      inc = with_one x.incarnation s range i
-
-      own_one : (t u j n k : ℕ) → inc t j ≡ Some k → inc u n ≡ Some k → (t ≡ u) × (j ≡ n)
-      own_one = own_with_one x.incarnation s range i alone x.own
-
-      below_one : (t j k : ℕ) → inc t j ≡ Some k → k < x.bound + suc i
-      below_one t j k e = elim (whose x.incarnation s range i t j k e) [
-        | inl here_t ↦ (let same = here_t.2 in omega (arith, same))
-        | inr there_t ↦ (let less = x.below t j k there_t in omega (arith, less))
-      ]
+      inc = these.of
 
       idle_one : (n : ℕ) → x.bound + suc i ≤ n → (j : ℕ) → IsIdle generation (next_machines j) n
       idle_one n le =
@@ -597,7 +578,7 @@ module _ (generation : ℕ → ℕ) (nodes target : ℕ) where
 
       sees : SeesStories generation i v m_then.stand l_then.stand
       sees =
-          k.rule.seen
+          k.seen
           (record {
             metadata = near.story (stream_named range kinds.Metadata) ∙ x.stories.metadata_is range;
             log = near.story (stream_named range kinds.Log) ∙ x.stories.log_is range;
@@ -605,8 +586,8 @@ module _ (generation : ℕ → ℕ) (nodes target : ℕ) where
             append = began;
           })
 
-      all_grow : (j : ℕ) → GrewFrom (base j) (next_machines j).l
-      all_grow = by_range (λ j u. GrewFrom (base j) u.l) (grew_on (base range) (moves_of generation i goes.log_turns) z.l (x.grows range)) (λ j apart. x.grows j)
+      all_grow : (j : ℕ) → GrewFrom (base.logs j) (next_machines j).l
+      all_grow = by_range (λ j u. GrewFrom (base.logs j) u.l) (grew_on (base.logs range) (moves_of generation i goes.log_turns) z.l (x.grows range)) (λ j apart. x.grows j)
 
       other_here : (j : ℕ) → (j ≡ range → ⊥) → next_machines j ≡ x.machines j
       other_here j apart = ap (λ t. if t then new else x.machines j) (other_test j range apart)
@@ -627,7 +608,7 @@ module _ (generation : ℕ → ℕ) (nodes target : ℕ) where
           IsHeld generation nodes target later j (x.machines j) (next_run.history u j) (inc u j) job r
       aside_held u j job r apart none =
           let test : ((u == s) && (j == range)) ≡ false = other_range u s j range apart in
-          held_on generation nodes target j x.moves later (x.machines j) (x.machines j) (y.history u j) (next_run.history u j) (apart_is u j test) (x.incarnation u j) (inc u j) (one_other x.incarnation s range i u j test) job r
+          held_on generation nodes target j x.moves later (x.machines j) (x.machines j) (y.history u j) (next_run.history u j) (apart_is u j test) (x.incarnation u j) (inc u j) (these.others u j test) job r
           (λ n mine h. holds_on generation nodes target j x.moves later (x.machines j) (x.machines j) (onward_same generation nodes target j x.moves later (x.machines j) same_catalog all_notes) n (refl, refl) (y.history u j) job r
           (λ q own. subst (λ v. HasNone generation v q) (other_here j apart) (none.0 q own)) (λ k is_job q own. subst (λ v. HasNone generation v q) (other_here j apart) (none.1 k is_job q own)) h)
 
@@ -636,20 +617,21 @@ module _ (generation : ℕ → ℕ) (nodes target : ℕ) where
           IsHeld generation nodes target later range new (next_run.history u range) (inc u range) job r
       other_held u job r apart none =
           let test : ((u == s) && (range == range)) ≡ false = other_server u s range range apart in
-          held_on generation nodes target range x.moves later z new (y.history u range) (next_run.history u range) (apart_is u range test) (x.incarnation u range) (inc u range) (one_other x.incarnation s range i u range test) job r
+          held_on generation nodes target range x.moves later z new (y.history u range) (next_run.history u range) (apart_is u range test) (x.incarnation u range) (inc u range) (these.others u range test) job r
           (λ n mine h.
           holds_on generation nodes target range x.moves later z new (goes_onward generation nodes target x.moves range z i st.context o Then goes later same_catalog all_notes) n
-          (others_steady generation nodes target x.moves range z i st.context o Then goes n (λ same. apart (alone u range (mine ∙ ap Some same)).0)) (y.history u range) job r
+          (others_steady generation nodes target x.moves range z i st.context o Then goes n (λ same. apart (these.alone u range (mine ∙ ap Some same)))) (y.history u range) job r
           (λ q own. subst (λ v. HasNone generation v q) new_here (none.0 q own)) (λ k is_job q own. subst (λ v. HasNone generation v q) new_here (none.1 k is_job q own)) h)
 
       own_held : (r : RangeState) → range_of after.ranges range ≡ Some r → IsHeld generation nodes target later range new (next_run.history s range) (inc s range) (split_of after.splits range) r
       own_held r found = record {
         counted = founded.0;
         incarnation = i;
-        is = one_here x.incarnation s range i;
+        is = these.here r (shape.here r found);
         holds = subst (λ (u : RangeView). Holds generation nodes target later range new u.history i (split_of after.splits range) r) (sym here_is)
             (subst (λ job. Holds generation nodes target later range new v.history i job r) (sym split_shape.here)
-            (own_if generation nodes target x.moves range z i st.context o t.job goes later same_catalog all_notes v.history sees.record_append sees.append k.read r (shape.here r found)));
+            (own_holds generation nodes target x.moves range z i st.context o Then t.job goes later same_catalog all_notes v.history sees.record_append sees.append r (next_follows r (shape.here r found))
+            (subst (λ a. HasReadIf range w i (after_all Group generation z.m).state (after_all Group generation z.l).state v.history a) (shape.here r found) k.read)));
       }
 
       split_held_after : (j : ℕ) (job : SplitJob) → split_of after.splits j ≡ Some job → (r : RangeState) × (range_of after.ranges j ≡ Some r)
@@ -692,19 +674,31 @@ module _ (generation : ℕ → ℕ) (nodes target : ℕ) where
 
       all_run : (t : ℕ) (other_cell : ServerCell) (u : ServerState) → entry_at next_servers t ≡ Some other_cell → other_cell.state ≡ Some u →
           Runs generation nodes target later next_machines (next_run.history t) (inc t) t other_cell u
-      all_run t other_cell u there up = go (t == s) refl
+      all_run k other_cell u =
+          by_one s (λ k. entry_at next_servers k ≡ Some other_cell → other_cell.state ≡ Some u → Runs generation nodes target later next_machines (next_run.history k) (inc k) k other_cell u)
+          (λ there up.
+          (let found : Some next_cell ≡ Some other_cell = sym (entry_set c.servers s cell next_cell at) ∙ there in
+          let cell_is : next_cell ≡ other_cell = cc in
+          subst (λ y. Runs generation nodes target later next_machines (next_run.history s) (inc s) s y u) cell_is
+          (subst (λ y. Runs generation nodes target later next_machines (next_run.history s) (inc s) s next_cell y) (left.state_is c.servers s cell st at is range t.range t.job after shape split_shape other_cell u there up) own_runs)))
+          (λ k apart. others_run k other_cell u apart) k
+
+      -- ---- the two ranges of splits
+
+      own_keyed : (r : RangeState) (job : SplitJob) → HeldAt next_servers s range r → SplitAt next_servers s range job → IsFirm generation base s range →
+          (t.range ≡ Some r) × ((phase : SplitPhase) → job.phase ≡ phase → AreOthers range job phase) × KeysStand generation nodes target x.moves x.machines (y.history s) i r job job.phase
+      own_keyed r job h found firm = (own_range r h, λ phase e. subst (AreOthers range job) e follows.others, own_keys r (own_range r h) job (own_split job found) firm)
         where
-          go : (b : Bool) → (t == s) ≡ b → Runs generation nodes target later next_machines (next_run.history t) (inc t) t other_cell u
-          go true e =
-              let same : s ≡ t = grind (arith, nat_tests) in
-              let found : Some next_cell ≡ Some other_cell = sym (entry_set c.servers s cell next_cell at) ∙ subst (λ k. entry_at next_servers k ≡ Some other_cell) (sym same) there in
-              let cell_is : next_cell ≡ other_cell = cc in
-              let state_is : Some after ≡ Some u = ap (λ (y : ServerCell). y.state) cell_is ∙ up in
-              let after_is : after ≡ u = cc in
-              subst (λ k. Runs generation nodes target later next_machines (next_run.history k) (inc k) k other_cell u) same
-              (subst (λ y. Runs generation nodes target later next_machines (next_run.history s) (inc s) s y u) cell_is
-              (subst (λ y. Runs generation nodes target later next_machines (next_run.history s) (inc s) s next_cell y) after_is own_runs))
-          go false e = others_run t other_cell u (λ q. grind (arith, nat_tests)) there up
+          follows : FollowsBoth generation range w i (Some job) r m_then l_then
+          follows = subst (λ j. FollowsBoth generation range w i j r m_then l_then) (own_split job found) (next_follows r (own_range r h))
+
+      keys_next : (u k : ℕ) (r : RangeState) (job : SplitJob) → HeldAt next_servers u k r → SplitAt next_servers u k job → IsFirm generation base u k → (n : ℕ) → inc u k ≡ Some n →
+          KeysStand generation nodes target later next_machines (next_run.history u) n r job job.phase
+      keys_next =
+          keys_after generation nodes target x.moves later same_catalog all_notes x.machines next_machines y.history next_run.history s range i other_here apart_is
+          (subst (λ v. IsOnward generation nodes target range x.moves later z v) (sym new_here) (goes_onward generation nodes target x.moves range z i st.context o Then goes later same_catalog all_notes))
+          (λ n other. subst (λ v. IsSteady generation z v n) (sym new_here) (others_steady generation nodes target x.moves range z i st.context o Then goes n other)) c.servers next_servers base x.incarnation x.bound t.range these
+          held_back split_back x.keys own_keyed apart
 
       -- ---- what is seen
 
@@ -727,30 +721,24 @@ module _ (generation : ℕ → ℕ) (nodes target : ℕ) where
 
       -- what is formed of a metadata says checkpoints
       all_says : (j : ℕ) → AllSay (next_run.story (stream_named j kinds.Metadata))
-      all_says j = elim (cases_eq j range) [
-        | inl same ↦
-            subst (λ n. AllSay (next_run.story (stream_named n kinds.Metadata))) (sym same)
-            (subst (λ (u : RangeView). AllSay (u.story kinds.Metadata)) (sym here_is)
-            (actions_say (generation i) (view_at range b s) actions k.on_either (subst (λ story. AllSay story) (sym (near.story (stream_named range kinds.Metadata))) (x.says range))))
-        | inr apart ↦ subst (λ story. AllSay story) (sym (story_aside (stream_named j kinds.Metadata) (of_other j kinds.Metadata apart))) (x.says j)
-      ]
+      all_says =
+          by_one range (λ j. AllSay (next_run.story (stream_named j kinds.Metadata)))
+          (subst (λ (u : RangeView). AllSay (u.story kinds.Metadata)) (sym here_is)
+          (actions_say (generation i) (view_at range b s) actions k.on_either (subst (λ story. AllSay story) (sym (near.story (stream_named range kinds.Metadata))) (x.says range))))
+          (λ j apart. subst (λ story. AllSay story) (sym (story_aside (stream_named j kinds.Metadata) (of_other j kinds.Metadata apart))) (x.says j))
 
       -- what was shown was observed before the rule
       observed_before : (j : ℕ) → AreObserved c.stream_layer.notes (next_run.shown j)
-      observed_before j = elim (cases_eq j range) [
-        | inl same ↦
-            subst (λ n. AreObserved c.stream_layer.notes (next_run.shown n)) (sym same)
-            (subst (λ (u : RangeView). AreObserved c.stream_layer.notes u.shown) (sym here_is) (subst (λ (u : StreamSystem). AreObserved u.notes v.shown) x.leads k.observed.shown_there))
-        | inr other ↦ subst (λ ps. AreObserved c.stream_layer.notes ps) (sym ((actions_bytes s range (generation i) j other b actions).0 ∙ near.shown j)) (x.observed j)
-      ]
+      observed_before =
+          by_one range (λ j. AreObserved c.stream_layer.notes (next_run.shown j))
+          (subst (λ (u : RangeView). AreObserved c.stream_layer.notes u.shown) (sym here_is) (subst (λ (u : StreamSystem). AreObserved u.notes v.shown) x.leads k.observed.shown_there))
+          (λ j other. subst (λ ps. AreObserved c.stream_layer.notes ps) (sym ((actions_bytes s range (generation i) j other b actions).0 ∙ near.shown j)) (x.observed j))
 
       acked_before : (j : ℕ) → AreObserved c.stream_layer.notes (next_run.answered j)
-      acked_before j = elim (cases_eq j range) [
-        | inl same ↦
-            subst (λ n. AreObserved c.stream_layer.notes (next_run.answered n)) (sym same)
-            (subst (λ (u : RangeView). AreObserved c.stream_layer.notes u.answered) (sym here_is) (subst (λ (u : StreamSystem). AreObserved u.notes v.answered) x.leads k.observed.answered_there))
-        | inr other ↦ subst (λ ps. AreObserved c.stream_layer.notes ps) (sym ((actions_bytes s range (generation i) j other b actions).1 ∙ near.answered j)) (x.acked j)
-      ]
+      acked_before =
+          by_one range (λ j. AreObserved c.stream_layer.notes (next_run.answered j))
+          (subst (λ (u : RangeView). AreObserved c.stream_layer.notes u.answered) (sym here_is) (subst (λ (u : StreamSystem). AreObserved u.notes v.answered) x.leads k.observed.answered_there))
+          (λ j other. subst (λ ps. AreObserved c.stream_layer.notes ps) (sym ((actions_bytes s range (generation i) j other b actions).1 ∙ near.answered j)) (x.acked j))
 
       notes_are : next_run.notes ≡ y.notes ++ notes
       notes_are = ap (λ ns. ns ++ notes) ((actions_rest s range (generation i) b actions).1 ∙ near.notes)
@@ -766,7 +754,7 @@ module _ (generation : ℕ → ℕ) (nodes target : ℕ) where
           subst (λ ns. AreSeenAs texts ns (server_notes (noted c.stream_layer.notes notes))) (sym notes_are)
           (seen_all texts y.notes notes c.stream_layer.notes (bytes_of next_run) all
           (λ j. observed_both c.stream_layer.notes (next_run.shown j) (next_run.answered j) (observed_before j) (acked_before j))
-          (laid texts (ordered texts before)) (x.told texts before))
+          (laid.within texts (ordered texts before)) (x.told texts before))
 
       -- the cluster after the step
       pub stepped : AreLaid next_run notes → Standing generation nodes target base next_cluster next_run
@@ -786,16 +774,24 @@ module _ (generation : ℕ → ℕ) (nodes target : ℕ) where
         first = x.first;
         there = all_there;
         lists = all_lists;
+        extends = all_extends;
         incarnation = inc;
         bound = x.bound + suc i;
-        own = own_one;
-        below = below_one;
+        own = these.own;
+        below = these.below;
         idle = idle_one;
         cells = refl;
         servers = all_run;
+        aside = laid.aside;
+        keys = keys_next;
         stories = all_seen;
         says = all_says;
         observed = λ j. observed_on c.stream_layer.notes (noted c.stream_layer.notes notes) (noted_keeps c.stream_layer.notes notes) (next_run.shown j) (observed_before j);
         acked = λ j. observed_on c.stream_layer.notes (noted c.stream_layer.notes notes) (noted_keeps c.stream_layer.notes notes) (next_run.answered j) (acked_before j);
         told = tables_told laid;
       }
+
+      -- its machines and its incarnations are these
+      pub stepped_so : (laid : AreLaid next_run notes) (u j : ℕ) → ((stepped laid).machines j ≡ next_machines j) × ((stepped laid).incarnation u j ≡ these.of u j)
+      unfolding stepped
+      stepped_so laid u j = (refl, refl)

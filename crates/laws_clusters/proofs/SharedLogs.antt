@@ -27,8 +27,8 @@ module _ (generation : ℕ → ℕ) where
   }
 
   -- what stands has grown from itself
-  abbrev pub rebased : (nodes target : ℕ) {base : Bases generation} (c : Cluster) (y : ServerRun) (x : Standing generation nodes target base c y) → Standing generation nodes target (λ range. (x.machines range).l) c y
-  rebased nodes target c y x = record {
+  abbrev pub rebased : (nodes target : ℕ) {base : Bases generation} (c : Cluster) (y : ServerRun) (x : Standing generation nodes target base c y) → Standing generation nodes target (record { logs = λ range. (x.machines range).l; midst = base.midst }) c y
+  rebased nodes target {base} c y x = record {
     moves = x.moves;
     leads = x.leads;
     machines = x.machines;
@@ -44,6 +44,7 @@ module _ (generation : ℕ → ℕ) where
     first = x.first;
     there = x.there;
     lists = x.lists;
+    extends = x.extends;
     incarnation = x.incarnation;
     bound = x.bound;
     own = x.own;
@@ -51,6 +52,8 @@ module _ (generation : ℕ → ℕ) where
     idle = x.idle;
     cells = x.cells;
     servers = x.servers;
+    aside = x.aside;
+    keys = x.keys;
     stories = x.stories;
     says = x.says;
     observed = x.observed;

@@ -9,22 +9,30 @@ use Rattle.replica.specs.Groups.{Group}
 use Rattle.model_streams.specs.declared.event.Event.{Event}
 use Rattle.model_streams.specs.declared.event.Event.TheVariants.{Submit, Deliver, Stop, Restart, Decide, GiveUp, Assign, Renew, Moment as MomentTold, Checkpoint, Split, Merge}
 use Rattle.model_streams.specs.StreamSystem.{delivered, delivered_if, happens}
-use Rattle.model_partition.specs.Cluster.{Cluster, IsUnmerged, delivered_to, delivers, cluster_after, cluster_after_all}
+use Rattle.model_partition.specs.Cluster.{Cluster, IsUnmerged, delivered_to, delivers, cluster_after}
 use Rattle.model_partition.specs.Past.{Bytes}
 use Rattle.model_histories.specs.ServedTables.{StreamsInOrder}
 use Rattle.model_histories.specs.ServerRun.{ServerRun, ServerEvent, Takes, GivesUp, Checkpoints, Splits, Stops, Starts, Moment, Builds, run_of, log_name}
 use Rattle.model_histories.specs.Story.{Placed, Showed, event_at}
 use Rattle.model_histories.specs.TableContents.{AllTellRightly}
-use Rattle.laws_clusters.specs.ServerEvents.{built_events, packet_events, delivery_events, stop_events, start_events, server_events, server_events_after}
+use Rattle.laws_clusters.specs.ServerEvents.{built_events, packet_events, delivery_events, stop_events, start_events, server_events}
 use Rattle.laws_clusters.proofs.BuildEvents.{built_at, built_if, built_in}
 use Rattle.laws_clusters.proofs.BuiltRanges.{NowShares, builds_share}
 use Rattle.laws_clusters.proofs.ClusterEvents.{run_events, EventOwes, comes_on}
 use Rattle.laws_clusters.proofs.Generations.{generation_at}
 use Rattle.laws_clusters.proofs.GrownLists.{GrewFrom}
 use Rattle.laws_clusters.proofs.Invariant.{Machines, Standing, Bases}
-use Rattle.laws_clusters.proofs.Moments.{ends_of_one}
 use Rattle.laws_clusters.proofs.SharedLogs.{SharesLog, share_on, rebased}
+use Rattle.laws_clusters.proofs.SplitNews.{BuildsOfSplits}
 use Rattle.laws_clusters.proofs.StreamOrders.{in_order, l_shared}
+
+-- ---- lists
+
+-- of two ends of a list one is an end of the other
+ends_of_one : {A : Type 0} (xs u ys v : List A) → xs ++ u ≡ ys ++ v → ((k : List A) × (u ≡ k ++ v)) ⊎ ((k : List A) × (v ≡ k ++ u))
+ends_of_one [] u ys v e = inl (ys, e)
+ends_of_one (x ∷ xs) u [] v e = inr (x ∷ xs, sym e)
+ends_of_one (x ∷ xs) u (y ∷ ys) v e = ends_of_one xs u ys v (let t : xs ++ u ≡ ys ++ v = cc in t)
 
 -- ---- events that build nothing
 
@@ -106,27 +114,27 @@ module _ (nodes target batch count : ℕ) where
   StandsShared base coming c events = (x : Standing generation_at nodes target base c (run (events ++ coming))) × NowShares generation_at (run coming) x.machines events
 
   module _ {base : Bases generation_at} (c : Cluster) (coming : List ServerEvent) (x : Standing generation_at nodes target base c (run coming)) where
-    manager_shares : (number : ℕ) (p : Packet) → slice_get c.stream_layer.post number ≡ Some p → p.to ≡ Manager → StandsShared base coming (cluster_after c (Deliver number)) (server_events c (Deliver number))
-    manager_shares number p at is =
+    manager_shares : (number : ℕ) → BuildsOfSplits c (Deliver number) → (p : Packet) → slice_get c.stream_layer.post number ≡ Some p → p.to ≡ Manager → StandsShared base coming (cluster_after c (Deliver number)) (server_events c (Deliver number))
+    manager_shares number news p at is =
         subst (λ o. StandsShared base coming (delivers c o) (delivery_events c o)) (sym at)
         (subst (λ to. StandsShared base coming (delivered_to c p to) (packet_events c to p)) (sym is)
         (subst (λ l. StandsShared base coming (record c { stream_layer = delivered c.stream_layer p Manager }) (built_events l)) (ap (built_if c.stream_layer) at ∙ ap (built_at c.stream_layer p) is)
         (subst (λ z. StandsShared base coming (record c { stream_layer = z }) es) (ap (delivered_if c.stream_layer) at ∙ ap (delivered c.stream_layer p) is)
         (subst (λ z. (u : Standing generation_at nodes target base (record c { stream_layer = happens c.stream_layer (Deliver number) }) z) × NowShares generation_at (run coming) u.machines es) (run_events batch count es coming)
-        (builds_share generation_at nodes target c (run coming) x (Deliver number))))))
+        (builds_share generation_at nodes target c (run coming) x (Deliver number) news)))))
       where
         es : List ServerEvent
         es = built_events (built_in c.stream_layer (Deliver number))
 
-    pub comes_shared : (event : Event) → IsUnmerged event → EventOwes nodes target batch count c coming x event → StandsShared base coming (cluster_after c event) (server_events c event)
-    comes_shared event unmerged owes = by (who_builds c event)
+    pub comes_shared : (event : Event) → IsUnmerged event → BuildsOfSplits c event → EventOwes nodes target batch count c coming x event → StandsShared base coming (cluster_after c event) (server_events c event)
+    comes_shared event unmerged news owes = by (who_builds c event)
       where
         by : HasNoBuild (server_events c event) ⊎ ManagerTakes c event → StandsShared base coming (cluster_after c event) (server_events c event)
         by (inl none) = (
-          comes_on nodes target batch count c coming x event unmerged owes,
-          no_build_shares generation_at (run coming) (comes_on nodes target batch count c coming x event unmerged owes).machines (server_events c event) none,
+          comes_on nodes target batch count c coming x event unmerged news owes,
+          no_build_shares generation_at (run coming) (comes_on nodes target batch count c coming x event unmerged news owes).machines (server_events c event) none,
         )
-        by (inr (number, p, is, at, to)) = subst (λ e. StandsShared base coming (cluster_after c e) (server_events c e)) (sym is) (manager_shares number p at to)
+        by (inr (number, p, is, at, to)) = subst (λ e. StandsShared base coming (cluster_after c e) (server_events c e)) (sym is) (manager_shares number (subst (BuildsOfSplits c) is news) p at to)
 
   -- ---- all that came
 
@@ -155,15 +163,18 @@ module _ (nodes target batch count : ℕ) where
     pub base : Bases generation_at
     pub stands : Standing generation_at nodes target base c (run coming)
     -- it has grown from itself so far
-    pub grown : (range : ℕ) → base range ≡ (stands.machines range).l
+    pub grown : (range : ℕ) → base.logs range ≡ (stands.machines range).l
+    -- and no split is in the midst of a step
+    pub calm : base.midst ≡ None
     pub shares : AllShare stands.machines coming
 
   -- what nothing came to shares nothing
-  pub begun_sharing : {base : Bases generation_at} (c : Cluster) → Standing generation_at nodes target base c (run []) → StandsSharing c []
-  begun_sharing c x = record {
-    base = λ range. (x.machines range).l;
+  pub begun_sharing : {base : Bases generation_at} (c : Cluster) → base.midst ≡ None → Standing generation_at nodes target base c (run []) → StandsSharing c []
+  begun_sharing {base} c calm x = record {
+    base = record { logs = λ range. (x.machines range).l; midst = base.midst };
     stands = rebased generation_at nodes target c (run []) x;
     grown = λ range. refl;
+    calm = calm;
     shares = none;
   }
     where
@@ -172,28 +183,17 @@ module _ (nodes target batch count : ℕ) where
       none (event ∷ late) early source range e = absurd cc
 
   -- an event of which nothing is owed
-  pub sharing_on : (c : Cluster) (coming : List ServerEvent) (x : StandsSharing c coming) (event : Event) → IsUnmerged event → EventOwes nodes target batch count c coming x.stands event →
+  pub sharing_on : (c : Cluster) (coming : List ServerEvent) (x : StandsSharing c coming) (event : Event) → IsUnmerged event → BuildsOfSplits c event → EventOwes nodes target batch count c coming x.stands event →
       StandsSharing (cluster_after c event) (server_events c event ++ coming)
-  sharing_on c coming x event unmerged owes =
-      let next = comes_shared c coming x.stands event unmerged owes in
+  sharing_on c coming x event unmerged news owes =
+      let next = comes_shared c coming x.stands event unmerged news owes in
       record {
-        base = λ range. (next.0.machines range).l;
+        base = record { logs = λ range. (next.0.machines range).l; midst = x.base.midst };
         stands = rebased generation_at nodes target (cluster_after c event) (run (server_events c event ++ coming)) next.0;
         grown = λ range. refl;
+        calm = x.calm;
         shares = share_more x.stands.machines next.0.machines (λ range. subst (λ l. GrewFrom l (next.0.machines range).l) (x.grown range) (next.0.grows range)) coming (server_events c event) x.shares next.1;
       }
-
-  -- ---- whole runs
-
-  -- nothing is owed of any event, however the cluster stands
-  abbrev pub AllOwed : Cluster → List ServerEvent → List Event → Type 0
-  AllOwed c coming [] = Unit {0}
-  AllOwed c coming (event ∷ events) =
-      IsUnmerged event × ((x : StandsSharing c coming) → EventOwes nodes target batch count c coming x.stands event) × AllOwed (cluster_after c event) (server_events c event ++ coming) events
-
-  pub all_sharing : (events : List Event) (c : Cluster) (coming : List ServerEvent) → StandsSharing c coming → AllOwed c coming events → StandsSharing (cluster_after_all c events) (server_events_after c coming events)
-  all_sharing [] c coming x owed = x
-  all_sharing (event ∷ events) c coming x (unmerged, owes, rest) = all_sharing events (cluster_after c event) (server_events c event ++ coming) (sharing_on c coming x event unmerged (owes x)) rest
 
   -- ---- orders
 

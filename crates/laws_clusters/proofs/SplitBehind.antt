@@ -17,11 +17,13 @@ use Rattle.laws_loads.proofs.Entries.{entry_set, set_twice}
 use Rattle.laws_ranges.specs.SplitJobs.{LeavesKeys, SplitSees}
 use Rattle.laws_ranges.proofs.SplitReplies.{follows_split, gives_up_split}
 use Rattle.laws_ranges.proofs.SplitsKept.{both_under}
+use Rattle.laws_ranges.proofs.SplitsPaused.{KeepsKeys}
 use Rattle.laws_servers.specs.Sending.{AllFromServers}
 use Rattle.laws_servers.proofs.SplitSteps.{follows_sends}
 use Rattle.laws_server_runs.specs.RunInvariant.{view_at}
-use Rattle.laws_clusters.proofs.SplitRequests.{BuildsCounted}
-use Rattle.laws_clusters.proofs.Invariant.{m_side, l_side, Standing, Bases}
+use Rattle.laws_clusters.proofs.SplitRequests.{BuildsNew}
+use Rattle.laws_clusters.proofs.Invariant.{IsMaking, AreAside, m_side, l_side, Standing, Bases}
+use Rattle.laws_clusters.proofs.KeptKeys.{aside_stays}
 use Rattle.laws_clusters.proofs.RangeRules.{both}
 use Rattle.laws_clusters.proofs.RowRules.{RowsIf}
 use Rattle.laws_clusters.proofs.ServerRules.{AreLaid, plain_laid}
@@ -36,7 +38,7 @@ use Rattle.laws_clusters.proofs.SplitStands as split
 module _ (generation : ℕ → ℕ) (nodes target : ℕ) {base : Bases generation} (c : Cluster) (y : ServerRun) (x : Standing generation nodes target base c y) (s : ℕ) (cell : ServerCell) (st : ServerState) (at : entry_at c.servers s ≡ Some cell) (is : cell.state ≡ Some st)
     (range : ℕ) (r : RangeState) (found : range_of st.ranges range ≡ Some r) (job : SplitJob) (was : split_of st.splits range ≡ Some job) where
   module _ (o : RangeOutcome) (actions : List StreamAction) (acted : split.Does generation nodes target c y x s cell st at is range r found job was (beside_step job o) actions) (senders : AllFromServers o.packets)
-      (left : RowsIf st.context r.rows o.count o.packets o.after) (next : RangeState) (is_next : o.after ≡ Some next) where
+      (left : RowsIf st.context r.rows o.count o.packets o.after) (next : RangeState) (is_next : o.after ≡ Some next) (kept : IsMaking job.phase → KeepsKeys r next) where
     abbrev ranges : List (ℕ × RangeState)
     ranges = set_range st.ranges range o.after
 
@@ -52,8 +54,14 @@ module _ (generation : ℕ → ℕ) (nodes target : ℕ) {base : Bases generatio
     abbrev pub cell1 : ServerCell
     cell1 = one.cell_after generation nodes target c y x s cell st at is range r found (Some job) was (beside_step job o) ranges st.splits
 
+    -- its server holds no more ranges, and has the splits that it had
+    aside : AreAside y1.servers
+    aside =
+        aside_stays c.servers s cell st at is range r found (Some job) was o.after st1 (one.shape_of generation nodes target c y x s cell st at is range r found (Some job) was o.after)
+        (one.same_splits generation nodes target c y x s cell st at is range r found (Some job) was) x.aside
+
     pub x1 : Standing generation nodes target base c1 y1
-    x1 = split.rule_stands generation nodes target c y x s cell st at is range r found job was o [] actions acted senders left next is_next (plain_laid y1 [] tt)
+    x1 = split.rule_stands generation nodes target c y x s cell st at is range r found job was o [] actions acted senders left next is_next kept (plain_laid y1 [] tt aside)
 
     pub at1 : entry_at c1.servers s ≡ Some cell1
     at1 = entry_set c.servers s cell cell1 at
@@ -67,7 +75,7 @@ module _ (generation : ℕ → ℕ) (nodes target : ℕ) {base : Bases generatio
 
     -- what is so of a step of the split behind this
     module _ (t : SplitStep) (later : List StreamAction) (then : split.Does generation nodes target c1 y1 x1 s cell1 st1 at1 refl range next found1 job was t later) (sends : AllFromServers t.packets)
-        (leaves : Leaves st1.context next job t) (keys : LeavesUnkeyed st1.context next job t) (builds_later : BuildsCounted t.job) where
+        (leaves : Leaves st1.context next job t) (keys : LeavesUnkeyed st1.context next job t) (builds_later : BuildsNew c.stream_layer next job t) where
       abbrev pub state : ServerState
       state = record st { context = record st.context { count = t.count }; ranges = set_range st.ranges range t.range; splits = set_split st.splits range t.job }
 
@@ -138,7 +146,7 @@ module _ (generation : ℕ → ℕ) (nodes target : ℕ) {base : Bases generatio
           subst (λ z. Standing generation nodes target base z last_run) cluster_is
           (subst (λ z. Standing generation nodes target base (cluster_so (with_told (with_told c.stream_layer o.packets []) t.packets o.notes) two_servers) z) run_is
           (split.split_stands generation nodes target c1 y1 x1 s cell1 st1 at1 refl range next found1 job was t o.notes later then sends leaves keys
-          builds_later (set_range st.ranges range t.range) shape (set_split st.splits range t.job)
+          (record { counted = builds_later.counted; unbuilt = builds_later.unbuilt }) (set_range st.ranges range t.range) shape (set_split st.splits range t.job)
           (one.splits_of generation nodes target c y x s cell st at is range r found (Some job) was t.job) (subst (λ z. AreLaid z o.notes) (sym run_is) laid)))
 
     -- ---- what follows it
@@ -161,7 +169,7 @@ module _ (generation : ℕ → ℕ) (nodes target : ℕ) {base : Bases generatio
           (leaves_none st1.context next job (follows st1.context next job) (follows_leaves st1.context next job))
 
       -- a rule of the range, and what its split then does
-      pub follow_stands : (builds_later : BuildsCounted (follows st1.context next job).job) →
+      pub follow_stands : (builds_later : BuildsNew c.stream_layer next job (follows st1.context next job)) →
           AreLaid (last_run (follows st1.context next job) (follow_actions st1.context next job) followed (follows_sends st1.context next job) (follows_leaves st1.context next job) (follows_keys st1.context next job) builds_later) o.notes →
           Standing generation nodes target base (last_cluster (follows st1.context next job) (follow_actions st1.context next job) followed (follows_sends st1.context next job) (follows_leaves st1.context next job) (follows_keys st1.context next job) builds_later)
           (last_run (follows st1.context next job) (follow_actions st1.context next job) followed (follows_sends st1.context next job) (follows_leaves st1.context next job) (follows_keys st1.context next job) builds_later)
@@ -176,7 +184,7 @@ module _ (generation : ℕ → ℕ) (nodes target : ℕ) {base : Bases generatio
     -- what is so of a step of the split that adds nothing to the streams of the range
     abbrev pub GoesOn : SplitStep → Type 0
     GoesOn t =
-        AllFromServers t.packets → Leaves st1.context next job t → BuildsCounted t.job →
+        AllFromServers t.packets → Leaves st1.context next job t → BuildsNew c.stream_layer next job t →
         AreLaid (with_outcome (after_actions s range r.load.generation y actions) (record { servers = slice_set c.servers (s - 1) (record cell { state = Some (after_split t) }); packets = o.packets ++ t.packets; notes = o.notes })) o.notes →
         Standing generation nodes target base (record c { stream_layer = with_told c.stream_layer (o.packets ++ t.packets) o.notes; servers = slice_set c.servers (s - 1) (record cell { state = Some (after_split t) }) })
         (with_outcome (after_actions s range r.load.generation y actions) (record { servers = slice_set c.servers (s - 1) (record cell { state = Some (after_split t) }); packets = o.packets ++ t.packets; notes = o.notes }))

@@ -36,7 +36,7 @@ use Rattle.model_partition.specs.declared.split_job.SplitPhase.TheVariants as ph
 use Rattle.model_partition.specs.Range.{RangeState, request, given, picking, refused_users}
 use Rattle.model_partition.specs.Checkpoints.{begins}
 use Rattle.model_partition.specs.Answering.{answered_number}
-use Rattle.model_partition.specs.Splits.{SplitStep, stays, ends, goes, with_phase, split_rule, begun, is_drained, split_item, split_record, may_record, may_checkpoint, has_record_numbers, pauses_and_records, drains, extents_of, open_last, all_kinds, kinds_after, first_open, all_streams, seals_or_builds, with_last_sealed, is_extent, last_sealed, side_range, side_metadata, keys_record, may_say_keys, appends_keys, says_keys, keys_stand, keys_told, keys_reply, phase_awaits, refused, refused_by, map_told, seal_told, stream_told, told, split_reply_in, split_reply, has_number, has_stood, follows_in, follows, seal_again, gives_up_in, gives_up}
+use Rattle.model_partition.specs.Splits.{SplitStep, stays, ends, goes, with_phase, begun, is_drained, split_item, split_record, may_record, may_checkpoint, has_record_numbers, pauses_and_records, drains, extents_of, open_last, all_kinds, kinds_after, first_open, all_streams, seals_or_builds, with_last_sealed, is_extent, last_sealed, side_range, side_metadata, keys_record, may_say_keys, appends_keys, says_keys, keys_stand, keys_told, keys_reply, phase_awaits, refused, refused_by, map_told, seal_told, stream_told, told, split_reply_in, split_reply, has_number, has_stood, follows_in, follows, seal_again, gives_up_in, gives_up}
 use Rattle.laws_map.specs.Naming.{Each, IsUnder, AsksStreams, IsFor, AreFor, Knowledge, IsSplit, PhaseNames, JobNames}
 use Rattle.laws_map.proofs.ClientNames.{Keeps, listed, given_keeps, append_rule_keeps, reply_keeps, give_up_keeps}
 use Rattle.laws_map.proofs.RangeNames.{no_less, one_up, refused_for, begins_good}
@@ -151,9 +151,6 @@ module _ (Before After : ReqNo → List Modify → Type 0) (up : (q : ReqNo) (li
     goes_fits r job other packets later sends = record { count = one_up d.count; later = later; sends = sends }
 
     -- ---- the beginning
-
-    pub split_fits : (r : RangeState) (job : SplitJob) (key : List ℕ) → Fits d job (split_rule d r key)
-    split_fits r job key = goes_fits r job _ _ (λ new. tt) (tt, tt)
 
     begun_fits : (r : RangeState) (job : SplitJob) (low high : ℕ) → IsUnder n g r → JobFits After Fit job → Fits d job (begun d r job low high)
     begun_fits r job low high u f =

@@ -1,8 +1,6 @@
--- A cluster whose servers may split their ranges stands on through each event of a run without merges, and what its servers know of their
--- blob streams stays closed, where what is completed at the map has its streams, but for what is owed: the appends of keys, that servers are
--- told of closed blob streams, and the tables that servers show.
+-- A cluster whose servers may split their ranges stands on through each event of a run without merges, and blob streams stay closed, where what is
+-- completed at the map has its streams, servers open counted ranges, and the tables that they show are laid.
 use Rattle.std.proofs.Common.{◌≡◌, ℕ, nat_lt, List, [], ◌∷◌, ◌++◌, Option, Some, None, Contains, slice_get, refl, sym, ap, ◌∙◌, subst, append_assoc}
-use Rattle.block_types.specs.declared.record.Nodes.{Nodes}
 use Rattle.wire.specs.declared.actor.ActorId.{ActorId}
 use Rattle.wire.specs.declared.actor.ActorId.TheVariants.{Node, Manager, Map, Server, User}
 use Rattle.wire.specs.declared.packet.Packet.{Packet}
@@ -14,25 +12,25 @@ use Rattle.model_streams.specs.declared.event.Event.{Event}
 use Rattle.model_streams.specs.declared.event.Event.TheVariants.{Submit, Deliver, Stop, Restart, Decide, GiveUp, Assign, Renew, Moment, Checkpoint, Split, Merge}
 use Rattle.model_streams.specs.Maps.{entry_at}
 use Rattle.model_streams.proofs.Tests.{if_elim}
-use Rattle.model_partition.specs.Range.{RangeState}
-use Rattle.model_partition.specs.Server.{ServerState, range_of, picked}
-use Rattle.model_partition.specs.Servers.{ServerCell}
+use Rattle.model_partition.specs.Server.{picked}
 use Rattle.model_partition.specs.Cluster.{Cluster, IsUnmerged, cluster_after}
 use Rattle.model_histories.specs.ServerRun.{ServerRun, ServerEvent, Takes, GivesUp, Checkpoints, Splits, Stops, Starts, Moment as MomentSo, run_of}
 use Rattle.laws_streams.proofs.Choices.{contains_get}
 use Rattle.laws_map.proofs.SplitFacts.{KnowsSplits, event_knows}
-use Rattle.laws_ranges.specs.SplitJobs.{BlobTold}
 use Rattle.laws_server_runs.proofs.Unmerged.{HaveNoMerges, unmerged}
 use Rattle.laws_clusters.specs.ServerEvents.{source_events, entry_events, built_by, built_events, packet_events, delivery_events, stop_events, start_events, server_events}
+use Rattle.laws_clusters.proofs.BlobLists.{BlobsSealed, cluster_blobs, told_closed}
 use Rattle.laws_clusters.proofs.ClosedServers.{HaveClosed, HaveAscending, EventTells, event_closed}
-use Rattle.laws_clusters.proofs.ClusterEvents.{whole, PacketOwes, EventOwes, comes_on}
+use Rattle.laws_clusters.proofs.ClusterEvents.{whole, PacketOwes, EventOwes}
+use Rattle.laws_clusters.proofs.CountedOpenings.{OpensCounted}
 use Rattle.laws_clusters.proofs.Generations.{generation_at, plenty}
-use Rattle.laws_clusters.proofs.Invariant.{Standing}
+use Rattle.laws_clusters.proofs.KeysOwed.{keys_again_stands, known_keys_owed}
 use Rattle.laws_clusters.proofs.MapWords.{Completes}
 use Rattle.laws_clusters.proofs.ServerPackets.{picked_cell, picked_cluster, picked_run, picked_stands, picked_at}
 use Rattle.laws_clusters.proofs.ServerRules.{IsLaid}
 use Rattle.laws_clusters.proofs.SharesInRuns.{StandsSharing, sharing_on}
-use Rattle.laws_clusters.proofs.SplitsInRuns.{KeysOwed, KeysAgain, known_counted, answer_left, leaving_owed, splits_owed}
+use Rattle.laws_clusters.proofs.SideFacts.{known_builds}
+use Rattle.laws_clusters.proofs.SplitsInRuns.{known_counted, known_absent, answer_left, leaving_owed, splits_owed}
 
 module _ (nodes target batch count : ℕ) where
   abbrev run : List ServerEvent → ServerRun
@@ -43,94 +41,51 @@ module _ (nodes target batch count : ℕ) where
     pub sharing : StandsSharing nodes target batch count c coming
     pub known : KnowsSplits c
     pub closed : HaveClosed c.servers
-
-  -- servers that are told of streams that they open are told of closed blob streams
-  abbrev pub AllTold : Cluster → Type 0
-  AllTold c =
-      (s : ℕ) (cell : ServerCell) (st : ServerState) → entry_at c.servers s ≡ Some cell → cell.state ≡ Some st → (range : ℕ) (r : RangeState) → range_of st.ranges range ≡ Some r → (p : Packet) → Contains c.stream_layer.post p → p.to ≡ Server s → BlobTold r p.body
+    pub blobs : BlobsSealed c.stream_layer
 
   module _ (c : Cluster) (coming : List ServerEvent) (x : StandsSplitting c coming) where
     abbrev y : ServerRun
     y = run coming
 
-    -- ---- what is owed
-
-    abbrev pub PacketDues : Packet → ActorId → Type 0
-    PacketDues p (Server s) =
-        ((cell : ServerCell) (st : ServerState) (at : entry_at c.servers s ≡ Some cell) (is : cell.state ≡ Some st) → KeysOwed generation_at nodes target c y x.sharing.stands s cell st at is) × IsLaid (run (Takes s p ∷ coming))
-    PacketDues p to = Unit {0}
-
     abbrev whole_here : HaveNoMerges c.servers
     whole_here = whole nodes target batch count c coming x.sharing.stands
 
-    abbrev pub GivingUpDues : ℕ → ℕ → Nodes → Type 0
-    GivingUpDues s range pick =
-        (cell : ServerCell) (st : ServerState) (at : entry_at c.servers s ≡ Some cell) (is : cell.state ≡ Some st) →
-        KeysAgain generation_at nodes target (picked_cluster generation_at plenty nodes target c y x.sharing.stands whole_here s range pick cell st) (picked_run generation_at plenty nodes target c y x.sharing.stands whole_here s range pick cell st)
-        (picked_stands generation_at plenty nodes target c y x.sharing.stands whole_here s range pick cell st at is) s (picked_cell generation_at plenty nodes target c y x.sharing.stands whole_here s range pick cell st) (picked st pick)
-        (picked_at generation_at plenty nodes target c y x.sharing.stands whole_here s range pick cell st at) refl
+    module _ (completes : (p : Packet) → Contains c.stream_layer.post p → Completes c.stream_layer c.map p.body) where
+      -- ---- nothing is owed
 
-    abbrev pub EventDues : Event → Type 0
-    EventDues (Deliver number) = (p : Packet) → slice_get c.stream_layer.post number ≡ Some p → PacketDues p p.to
-    EventDues (GiveUp s range pick) = GivingUpDues s range pick × IsLaid (run (GivesUp s range pick ∷ coming))
-    EventDues (Checkpoint s range combine) = IsLaid (run (Checkpoints s range combine ∷ coming))
-    EventDues (Split s range key) = IsLaid (run (Splits s range key ∷ coming))
-    EventDues event = Unit {0}
-
-    -- ---- what is owed but for the tables that are shown
-
-    abbrev pub PacketKeys : Packet → ActorId → Type 0
-    PacketKeys p (Server s) = (cell : ServerCell) (st : ServerState) (at : entry_at c.servers s ≡ Some cell) (is : cell.state ≡ Some st) → KeysOwed generation_at nodes target c y x.sharing.stands s cell st at is
-    PacketKeys p to = Unit {0}
-
-    abbrev pub EventKeys : Event → Type 0
-    EventKeys (Deliver number) = (p : Packet) → slice_get c.stream_layer.post number ≡ Some p → PacketKeys p p.to
-    EventKeys (GiveUp s range pick) = GivingUpDues s range pick
-    EventKeys event = Unit {0}
-
-    pub dues_of : (event : Event) → EventKeys event → IsLaid (run (server_events c event ++ coming)) → EventDues event
-    dues_of (Deliver number) keys laid = λ p at. go p at p.to refl (keys p at)
-      where
-        go : (p : Packet) → slice_get c.stream_layer.post number ≡ Some p → (to : ActorId) → p.to ≡ to → PacketKeys p to → PacketDues p to
-        go p at (Server s) is keys = (keys, subst (λ l. IsLaid (run (l ++ coming))) (ap (delivery_events c) at ∙ ap (λ to. packet_events c to p) is) laid)
-        go p at (Node n) is keys = tt
-        go p at Manager is keys = tt
-        go p at Map is keys = tt
-        go p at (User u) is keys = tt
-    dues_of (GiveUp s range pick) keys laid = (keys, laid)
-    dues_of (Checkpoint s range combine) keys laid = laid
-    dues_of (Split s range key) keys laid = laid
-    dues_of (Submit user to body) keys laid = tt
-    dues_of (Stop actor call keep) keys laid = tt
-    dues_of (Restart actor) keys laid = tt
-    dues_of (Decide e) keys laid = tt
-    dues_of (Assign range server until) keys laid = tt
-    dues_of (Renew range server until) keys laid = tt
-    dues_of (Moment now) keys laid = tt
-    dues_of (Merge server left right) keys laid = tt
-
-    module _ (told : AllTold c) (completes : (p : Packet) → Contains c.stream_layer.post p → Completes c.stream_layer c.map p.body) where
-      packet_owes : (p : Packet) → Contains c.stream_layer.post p → (to : ActorId) → PacketDues p to → PacketOwes nodes target batch count c coming x.sharing.stands p to
-      packet_owes p there (Server s) dues = (
-        (λ cell st at is. splits_owed generation_at nodes target c y x.sharing.stands s cell st at is (known_counted c x.known s cell st at is) (x.closed s cell at st is) x.known (told s cell st at is) (dues.0 cell st at is)),
-        dues.1,
+      packet_owes : (p : Packet) → Contains c.stream_layer.post p → (to : ActorId) → ((s : ℕ) → to ≡ Server s → IsLaid (run (Takes s p ∷ coming))) → PacketOwes nodes target batch count c coming x.sharing.stands p to
+      packet_owes p there (Server s) laid = (
+        (λ cell st at is. splits_owed generation_at nodes target c y x.sharing.stands s cell st at is (known_counted c x.known s cell st at is) (known_absent c x.known s cell st at is) (x.closed s cell at st is) x.known (told_closed c x.blobs s cell st at is)
+            (known_keys_owed generation_at nodes target c y x.sharing.stands x.sharing.calm s cell st at is x.known)),
+        laid s refl,
       )
-      packet_owes p there Map dues = completes p there
-      packet_owes p there (Node n) dues = tt
-      packet_owes p there Manager dues = tt
-      packet_owes p there (User u) dues = tt
+      packet_owes p there Map laid = completes p there
+      packet_owes p there (Node n) laid = tt
+      packet_owes p there Manager laid = tt
+      packet_owes p there (User u) laid = tt
 
-      dues_owe : (event : Event) → EventDues event → EventOwes nodes target batch count c coming x.sharing.stands event
-      dues_owe (Deliver number) dues = λ p at. packet_owes p (contains_get c.stream_layer.post number p at) p.to (dues p at)
-      dues_owe (GiveUp s range pick) dues = (
+      event_owes : (event : Event) → IsLaid (run (server_events c event ++ coming)) → EventOwes nodes target batch count c coming x.sharing.stands event
+      event_owes (Deliver number) laid = λ p at.
+          packet_owes p (contains_get c.stream_layer.post number p at) p.to (λ s is. subst (λ l. IsLaid (run (l ++ coming))) (ap (delivery_events c) at ∙ ap (λ to. packet_events c to p) is) laid)
+      event_owes (GiveUp s range pick) laid = (
         (λ cell st at is. leaving_owed generation_at nodes target (picked_cluster generation_at plenty nodes target c y x.sharing.stands whole_here s range pick cell st) (picked_run generation_at plenty nodes target c y x.sharing.stands whole_here s range pick cell st)
             (picked_stands generation_at plenty nodes target c y x.sharing.stands whole_here s range pick cell st at is) s (picked_cell generation_at plenty nodes target c y x.sharing.stands whole_here s range pick cell st) (picked st pick)
-            (picked_at generation_at plenty nodes target c y x.sharing.stands whole_here s range pick cell st at) refl (known_counted c x.known s cell st at is) (dues.0 cell st at is)),
-        dues.1,
+            (picked_at generation_at plenty nodes target c y x.sharing.stands whole_here s range pick cell st at) refl (known_counted c x.known s cell st at is) (known_absent c x.known s cell st at is)
+            (keys_again_stands generation_at nodes target (picked_cluster generation_at plenty nodes target c y x.sharing.stands whole_here s range pick cell st) (picked_run generation_at plenty nodes target c y x.sharing.stands whole_here s range pick cell st)
+            (picked_stands generation_at plenty nodes target c y x.sharing.stands whole_here s range pick cell st at is) x.sharing.calm s (picked_cell generation_at plenty nodes target c y x.sharing.stands whole_here s range pick cell st) (picked st pick)
+            (picked_at generation_at plenty nodes target c y x.sharing.stands whole_here s range pick cell st at) refl)),
+        laid,
       )
-      dues_owe (Checkpoint s range combine) dues = dues
-      dues_owe (Split s range key) dues = dues
-      dues_owe event dues = tt
+      event_owes (Checkpoint s range combine) laid = laid
+      event_owes (Split s range key) laid = laid
+      event_owes (Submit user to body) laid = tt
+      event_owes (Stop actor call keep) laid = tt
+      event_owes (Restart actor) laid = tt
+      event_owes (Decide e) laid = tt
+      event_owes (Assign range server until) laid = tt
+      event_owes (Renew range server until) laid = tt
+      event_owes (Moment now) laid = tt
+      event_owes (Merge server left right) laid = tt
 
       -- ---- blob streams
 
@@ -154,7 +109,7 @@ module _ (nodes target batch count : ℕ) where
           one_event (Takes s p)
           (λ cell at st is range r found u number.
           (let here : entry_at c.servers s ≡ Some cell = ap (λ l. entry_at l s) x.sharing.stands.cells ∙ at in
-          answer_left generation_at nodes target c y x.sharing.stands s cell st here is (closed_here s cell at st is) (told s cell st here is) range r found p there to u number))
+          answer_left generation_at nodes target c y x.sharing.stands s cell st here is (closed_here s cell at st is) (told_closed c x.blobs s cell st here is) range r found p there to u number))
 
       source_closed : (range : ℕ) (sources : List Source) (later : List ServerEvent) → HaveClosed (run later).servers → HaveClosed (run (source_events range sources ++ later)).servers
       source_closed range [] later closed = closed
@@ -212,8 +167,14 @@ module _ (nodes target batch count : ℕ) where
       events_closed (Split s range key) = one_event (Splits s range key) tt
       events_closed (Merge server left right) = closed_here
 
-      -- Each event leaves it so, where no more than this is owed.
-      pub splitting_on : (event : Event) → IsUnmerged event → EventDues event → StandsSplitting (cluster_after c event) (server_events c event ++ coming)
-      splitting_on event is dues =
-          let next : StandsSharing nodes target batch count (cluster_after c event) (server_events c event ++ coming) = sharing_on nodes target batch count c coming x.sharing event is (dues_owe event dues) in
-          record { sharing = next; known = event_knows c event is x.known; closed = subst HaveClosed (sym next.stands.cells) (events_closed event) }
+      -- Each event leaves it so.
+      pub splitting_on : (event : Event) → IsUnmerged event → OpensCounted c.stream_layer.post → IsLaid (run (server_events c event ++ coming)) → StandsSplitting (cluster_after c event) (server_events c event ++ coming)
+      splitting_on event is opens laid =
+          let stands = x.sharing.stands in
+          let next : StandsSharing nodes target batch count (cluster_after c event) (server_events c event ++ coming) = sharing_on nodes target batch count c coming x.sharing event is (known_builds c x.known event) (event_owes event laid) in
+          record {
+            sharing = next;
+            known = event_knows c event is x.known;
+            closed = subst HaveClosed (sym next.stands.cells) (events_closed event);
+            blobs = cluster_blobs nodes target stands.moves c event is stands.leads stands.extends stands.lists opens x.blobs;
+          }

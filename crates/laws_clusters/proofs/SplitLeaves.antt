@@ -155,9 +155,6 @@ module _ (d : ServerContext) (r : RangeState) (job : SplitJob) where
 
   -- ---- seals, and what is built
 
-  abbrev numbered_as : SplitPhase → SplitJob
-  numbered_as phase = with_phase job phase
-
   builds_leaves : (next : RangeState) → WasOut r.rows next.rows → Leaves (builds d next job)
   builds_leaves next rows = inl (record { rows = rows; seal = λ q waits. absurd cc; call = λ q waits. inr (new_one q waits); sent = (inr (refl, refl), tt) })
 

@@ -1,6 +1,6 @@
--- The numbers of a split: each of its steps leaves them, and what it is to build is of ranges that are counted; and in a run without merges
--- the map tells it others than that of its own range.
-use Rattle.std.proofs.Common.{◌≡◌, ℕ, zero, suc, ◌≤◌, true, ◌&&◌, Option, Some, None, Contains, is_some, refl, sym, ap, ◌∙◌, subst, inl, inr, arith}
+-- The numbers of a split: each of its steps leaves them, and what it is to build is of ranges that are counted, and new where it asks for it
+-- first; and in a run without merges the map tells it others than that of its own range.
+use Rattle.std.proofs.Common.{◌≡◌, ℕ, zero, suc, ◌≤◌, true, false, ◌&&◌, List, [], ◌∷◌, Option, Some, None, Contains, is_some, refl, sym, ap, ◌∙◌, subst, inl, inr, arith}
 use Rattle.std.proofs.lemmas.Option.{same_Some}
 use Rattle.wire.specs.declared.actor.ReqNo.{ReqNo}
 use Rattle.wire.specs.declared.body.AppendBody.{AppendBody}
@@ -19,10 +19,12 @@ use Rattle.wire.specs.declared.refusal.Refusal.TheVariants as refusals
 use Rattle.wire.specs.declared.streams.StreamKind.{StreamKind}
 use Rattle.client.specs.declared.job.News.{News}
 use Rattle.client.specs.declared.job.News.TheVariants as news
-use Rattle.client.specs.Client.{Outcome, reply_rule}
+use Rattle.client.specs.Client.{ClientState, Outcome, append_rule, reply_rule, give_up_rule}
 use Rattle.client.specs.Requests.{is_same}
 use Rattle.model_streams.proofs.Tests.{if_elim}
-use Rattle.model_streams.specs.StreamSystem.{is_request}
+use Rattle.metadata.specs.Record.{spelling}
+use Rattle.model_streams.specs.StreamSystem.{StreamSystem, is_request}
+use Rattle.model_partition.specs.declared.pause.Pause.TheVariants as pauses
 use Rattle.model_partition.specs.declared.server_context.ServerContext.{ServerContext}
 use Rattle.model_partition.specs.declared.split_job.Side.{Side}
 use Rattle.model_partition.specs.declared.split_job.Side.TheVariants.{Low, High}
@@ -30,9 +32,10 @@ use Rattle.model_partition.specs.declared.split_job.SplitJob.{SplitJob}
 use Rattle.model_partition.specs.declared.split_job.SplitPhase.{SplitPhase}
 use Rattle.model_partition.specs.declared.split_job.SplitPhase.TheVariants as phases
 use Rattle.model_partition.specs.Answering.{answered_number}
+use Rattle.model_partition.specs.Checkpoints.{begins}
 use Rattle.model_partition.specs.Cluster.{Cluster}
-use Rattle.model_partition.specs.Range.{RangeState, request, picking}
-use Rattle.model_partition.specs.Splits.{SplitStep, with_phase, may_checkpoint, has_record_numbers, begun, is_drained, may_record, drains, extents_of, open_last, seals_or_builds, is_extent, last_sealed, may_say_keys, says_keys, keys_stand, keys_told, refused, refused_by, map_told, seal_told, stream_told, told, phase_awaits, split_reply_in, split_reply, has_number, has_stood, follows_in, follows, gives_up_in, gives_up}
+use Rattle.model_partition.specs.Range.{RangeState, request, given, picking}
+use Rattle.model_partition.specs.Splits.{SplitStep, stays, ends, with_phase, begin_packet, build_packet, complete_packet, checkpointed, may_checkpoint, has_record_numbers, begun, is_drained, may_record, pauses_and_records, drains, extents_of, open_last, builds, seals_or_builds, is_extent, last_sealed, side_range, side_metadata, keys_record, may_say_keys, appends_keys, says_keys, completes, keys_stand, keys_told, refused, refused_by, map_told, seal_told, stream_told, told, phase_awaits, split_reply_in, split_reply, has_number, has_stood, follows_in, follows, seal_again, keys_again, gives_up_in, gives_up}
 use Rattle.laws_map.specs.Generations.{HasAsked}
 use Rattle.laws_map.specs.GivenPairs.{given_to, HasNumber, AsksToComplete, IsToldPair, giving}
 use Rattle.laws_map.specs.Naming.{Knowledge, BodyNames, PhaseNames, JobNames, ServerNames, StateNames}
@@ -41,126 +44,161 @@ use Rattle.laws_map.proofs.EventNames.{entry_is}
 use Rattle.laws_map.proofs.GenerationsInRuns.{same_request}
 use Rattle.laws_map.proofs.Knowing.{found_at}
 use Rattle.laws_map.proofs.SplitFacts.{KnowsSplits, MayHold, JobAt, IsSide, held_assigned, split_above}
-use Rattle.laws_clusters.proofs.RunOwners.{IsNumbered}
-use Rattle.laws_clusters.proofs.SplitRequests.{BuildsCounted}
+use Rattle.laws_stream_machine.specs.Refinement.{IsThere}
+use Rattle.laws_ranges.specs.Serves.{metadata_of}
+use Rattle.laws_clusters.proofs.SplitRequests.{HasNoSides, BuildsNew}
 
 -- ---- steps
+
+-- the map has told the numbers of the split
+abbrev pub IsNumbered : SplitPhase → Type 0
+IsNumbered (phases.Begin q) = ⊥
+IsNumbered phase = Unit {0}
 
 module _ (d : ServerContext) (job : SplitJob) where
   -- both its ranges are counted
   abbrev Counted : Type 0
   Counted = (1 ≤ job.low) × (1 ≤ job.high)
 
-  -- a split that waits for nothing to be built
-  ends_counted : BuildsCounted None
-  ends_counted later e q at = absurd (let z : None ≡ Some later = e in cc)
+  same_side : (phase : SplitPhase) (side : Side) → side_range (with_phase job phase) side ≡ side_range job side
+  same_side phase Low = refl
+  same_side phase High = refl
 
-  moved : (phase : SplitPhase) → Counted → BuildsCounted (Some (with_phase job phase))
-  moved phase k later e q at =
-      let same : with_phase job phase ≡ later = same_Some _ later e in
-      (subst (λ (z : SplitJob). 1 ≤ z.low) same k.0, subst (λ (z : SplitJob). 1 ≤ z.high) same k.1)
-
-  -- no keys are being appended any more, nor more than begun
-  unbuilt : (later : SplitJob) → ((q : ReqNo) → later.phase ≡ phases.Build q → ⊥) → BuildsCounted (Some later)
-  unbuilt later none other e q at = let same : later ≡ other = same_Some later other e in absurd (none q (ap (λ (z : SplitJob). z.phase) same ∙ at))
-
-  module _ (k : IsNumbered job.phase → Counted) where
+  module _ (w : StreamSystem) (r : RangeState) (k : IsNumbered job.phase → Counted) (absent : stage_of job.phase ≡ 1 → HasNoSides w job) where
     abbrev Counts : SplitStep → Type 0
-    Counts t = BuildsCounted t.job
+    Counts t = BuildsNew w r job t
 
-    here : BuildsCounted (Some job)
-    here later e q at =
-        let same : job ≡ later = same_Some job later e in
-        let both : Counted = k (subst IsNumbered (sym (ap (λ (z : SplitJob). z.phase) same ∙ at)) tt) in
-        (subst (λ (z : SplitJob). 1 ≤ z.low) same both.0, subst (λ (z : SplitJob). 1 ≤ z.high) same both.1)
+    -- a split that waits for nothing to be built
+    unbuilding : (t : SplitStep) → ((later : SplitJob) → t.job ≡ Some later → (q : ReqNo) → later.phase ≡ phases.Build q → ⊥) → Counts t
+    unbuilding t none = record { counted = λ later e q at. absurd (none later e q at); unbuilt = λ later e q at. absurd (none later e q at) }
 
-    begun_counted : (r : RangeState) (low high : ℕ) → Counts (begun d r job low high)
-    begun_counted r low high = if_elim Counts (may_checkpoint r && has_record_numbers r) _ _ (λ t. unbuilt _ (λ q at. cc)) (λ t. here)
+    ends_counted : (z : RangeState) → Counts (ends d z)
+    ends_counted z = unbuilding (ends d z) (λ later e q at. (let none : None ≡ Some later = e in cc))
 
-    seals_counted : (r : RangeState) → Counted → (o : Option (StreamKind × ℕ)) → Counts (seals_or_builds d r job o)
-    seals_counted r both None = moved _ both
-    seals_counted r both (Some x) = moved _ both
+    -- one that waits for something else
+    waits_counted : (t : SplitStep) (other : SplitJob) → t.job ≡ Some other → ((q : ReqNo) → other.phase ≡ phases.Build q → ⊥) → Counts t
+    waits_counted t other is none =
+        unbuilding t (λ later e q at. (let same : other ≡ later = same_Some other later (sym is ∙ e) in none q (ap (λ (z : SplitJob). z.phase) same ∙ at)))
 
-    drains_counted : (r : RangeState) → Counted → Counts (drains d r job)
-    drains_counted r both = if_elim Counts (is_drained r && may_record r job) _ _ (λ t. moved _ both) (λ t. moved _ both)
+    -- it and its range are as they were
+    here : (count : ℕ) (ps : List Packet) → Counts (record { range = Some r; job = Some job; count = count; packets = ps })
+    here count ps = record {
+      counted = λ later e q at.
+          (let same : job ≡ later = same_Some job later e in
+          let both : Counted = k (subst IsNumbered (sym (ap (λ (z : SplitJob). z.phase) same ∙ at)) tt) in
+          (subst (λ (z : SplitJob). 1 ≤ z.low) same both.0, subst (λ (z : SplitJob). 1 ≤ z.high) same both.1));
+      unbuilt = λ later e q at. inl (refl, same_Some job later e);
+    }
 
-    says_counted : (r : RangeState) → Counted → (side : Side) → Counts (says_keys d r job side)
-    says_counted r both side = if_elim Counts (may_say_keys r job) _ _ (λ t. moved _ both) (λ t. here)
+    -- the streams are asked for
+    builds_counted : (z : RangeState) → Counted → HasNoSides w job → Counts (builds d z job)
+    builds_counted z both none = record {
+      counted = λ later e q at.
+          (let same : with_phase job (phases.Build (request d)) ≡ later = same_Some _ later e in
+          (subst (λ (z : SplitJob). 1 ≤ z.low) same both.0, subst (λ (z : SplitJob). 1 ≤ z.high) same both.1));
+      unbuilt = λ later e q at. inr (λ side there.
+          (let same : with_phase job (phases.Build (request d)) ≡ later = same_Some _ later e in
+          let side_is : side_range later side ≡ side_range job side = sym (ap (λ (z : SplitJob). side_range z side) same) ∙ same_side (phases.Build (request d)) side in
+          none side (subst (λ n. IsThere w (metadata_of n)) side_is there)));
+    }
 
-    stood_counted : (r : RangeState) → Counted → (side : Side) → Counts (keys_stand d r job side)
-    stood_counted r both Low = says_counted r both High
-    stood_counted r both High = moved _ both
+    begun_counted : (low high : ℕ) → Counts (begun d r job low high)
+    begun_counted low high =
+        let numbered : SplitJob = record job { low = low; high = high; number = suc r.said.next; phase = phases.Checkpoint } in
+        if_elim Counts (may_checkpoint r && has_record_numbers r) _ _ (λ t. waits_counted (checkpointed (begins d r false) numbered) numbered refl (λ q at. cc)) (λ t. here d.count [])
 
-    told_counted : (r : RangeState) → Counted → (side : Side) (o : Outcome) (about : Option News) → Counts (keys_told d r job side o about)
-    told_counted r both side o (Some news.Fenced) = ends_counted
-    told_counted r both side o (Some (news.Appended x offset)) = stood_counted r both side
-    told_counted r both side o None = moved _ both
-    told_counted r both side o (Some (news.Checked x n)) = moved _ both
-    told_counted r both side o (Some (news.Sealed x n)) = moved _ both
-    told_counted r both side o (Some (news.Content x n)) = moved _ both
+    seals_counted : (z : RangeState) → Counted → HasNoSides w job → (o : Option (StreamKind × ℕ)) → Counts (seals_or_builds d z job o)
+    seals_counted z both none None = builds_counted z both none
+    seals_counted z both none (Some x) = waits_counted (seals_or_builds d z job (Some x)) (with_phase job (phases.Seal x.0 (request d))) refl (λ q at. cc)
 
-    refused_counted : (r : RangeState) (phase : SplitPhase) → (IsNumbered phase → Counted) → (why : Refusal) → Counts (refused d r job phase why)
-    refused_counted r phase both refusals.Stale = ends_counted
-    refused_counted r (phases.Build q) both refusals.NameTaken = says_counted r (both tt) Low
-    refused_counted r (phases.Complete q) both refusals.GenerationChanged = ends_counted
-    refused_counted r phase both why = here
+    drains_counted : Counts (drains d r job)
+    drains_counted =
+        if_elim Counts (is_drained r && may_record r job) _ _ (λ t. waits_counted (pauses_and_records d r job) (with_phase job phases.Record) refl (λ q at. cc))
+        (λ t. waits_counted (stays d (record r { pause = pauses.AfterQueue }) (with_phase job phases.Queue)) (with_phase job phases.Queue) refl (λ q at. cc))
 
-    append_counted : (r : RangeState) (body : AppendBody) → Counts (refused_by d r job body)
-    append_counted r (appends.Refused z why) = refused_counted r job.phase k why
-    append_counted r body = here
+    -- keys are appended
+    keyed : (t : SplitStep) (side : Side) (c : ClientState) → t.job ≡ Some (with_phase job (phases.Keys side c)) → Counts t
+    keyed t side c is = waits_counted t (with_phase job (phases.Keys side c)) is (λ q at. cc)
 
-    map_counted : (r : RangeState) (phase : SplitPhase) (body : MapBody) → Counts (map_told d r job phase body)
-    map_counted r (phases.Begin q) (maps.SplitBegun z low high) = begun_counted r low high
-    map_counted r (phases.Complete q) (maps.SplitDone z) = ends_counted
-    map_counted r phase body = here
+    says_counted : (side : Side) → Counts (says_keys d r job side)
+    says_counted side =
+        let c : ClientState = side_metadata d r job side in
+        if_elim Counts (may_say_keys r job) _ _ (λ t. keyed (appends_keys d r job side) side (given c (append_rule c (request d) (spelling (keys_record r job side) ∷ []))).after refl) (λ t. here d.count [])
 
-    sealed_counted : (r : RangeState) → Counted → (kind : StreamKind) (e length : ℕ) → Counts (last_sealed d r job kind e length)
-    sealed_counted r both kind e length = if_elim Counts (is_extent e (open_last (extents_of r kind))) _ _ (λ t. seals_counted _ both _) (λ t. here)
+    stood_counted : (side : Side) → Counts (keys_stand d r job side)
+    stood_counted Low = says_counted High
+    stood_counted High = waits_counted (completes d r job) (with_phase job (phases.Complete (request d))) refl (λ q at. cc)
 
-    seal_counted : (r : RangeState) (phase : SplitPhase) → (IsNumbered phase → Counted) → (body : SealBody) → Counts (seal_told d r job phase body)
-    seal_counted r (phases.Seal kind q) both (seals.SealedIs z x length) = sealed_counted r (both tt) kind x length
-    seal_counted r phase both body = here
+    told_counted : (side : Side) (o : Outcome) (about : Option News) → Counts (keys_told d r job side o about)
+    told_counted side o (Some news.Fenced) = ends_counted r
+    told_counted side o (Some (news.Appended x offset)) = stood_counted side
+    told_counted side o None = keyed (keys_told d r job side o None) side o.after refl
+    told_counted side o (Some (news.Checked x n)) = keyed (keys_told d r job side o (Some (news.Checked x n))) side o.after refl
+    told_counted side o (Some (news.Sealed x n)) = keyed (keys_told d r job side o (Some (news.Sealed x n))) side o.after refl
+    told_counted side o (Some (news.Content x n)) = keyed (keys_told d r job side o (Some (news.Content x n))) side o.after refl
 
-    stream_counted : (r : RangeState) (phase : SplitPhase) → (IsNumbered phase → Counted) → (body : StreamBody) → Counts (stream_told d r job phase body)
-    stream_counted r (phases.Build q) both (streams.Modified z) = says_counted r (both tt) Low
-    stream_counted r phase both body = here
+    refused_counted : (phase : SplitPhase) (why : Refusal) → Counts (refused d r job phase why)
+    refused_counted phase refusals.Stale = ends_counted r
+    refused_counted (phases.Build q) refusals.NameTaken = says_counted Low
+    refused_counted (phases.Complete q) refusals.GenerationChanged = ends_counted r
+    refused_counted phase why = here d.count []
 
-    body_counted : (r : RangeState) (body : Body) → Counts (told d r job body)
-    body_counted r (bodies.Append body) = append_counted r body
-    body_counted r (bodies.Map body) = map_counted r job.phase body
-    body_counted r (bodies.Seal body) = seal_counted r job.phase k body
-    body_counted r (bodies.Stream body) = stream_counted r job.phase k body
-    body_counted r body = here
+    append_counted : (body : AppendBody) → Counts (refused_by d r job body)
+    append_counted (appends.Refused z why) = refused_counted job.phase why
+    append_counted body = here d.count []
+
+    map_counted : (phase : SplitPhase) (body : MapBody) → Counts (map_told d r job phase body)
+    map_counted (phases.Begin q) (maps.SplitBegun z low high) = begun_counted low high
+    map_counted (phases.Complete q) (maps.SplitDone z) = ends_counted r
+    map_counted phase body = here d.count []
+
+    sealed_counted : Counted → HasNoSides w job → (kind : StreamKind) (e length : ℕ) → Counts (last_sealed d r job kind e length)
+    sealed_counted both none kind e length = if_elim Counts (is_extent e (open_last (extents_of r kind))) _ _ (λ t. seals_counted _ both none _) (λ t. here d.count [])
+
+    seal_counted : (phase : SplitPhase) → (IsNumbered phase → Counted) → (stage_of phase ≡ 1 → HasNoSides w job) → (body : SealBody) → Counts (seal_told d r job phase body)
+    seal_counted (phases.Seal kind q) both none (seals.SealedIs z x length) = sealed_counted (both tt) (none refl) kind x length
+    seal_counted phase both none body = here d.count []
+
+    stream_counted : (phase : SplitPhase) (body : StreamBody) → Counts (stream_told d r job phase body)
+    stream_counted (phases.Build q) (streams.Modified z) = says_counted Low
+    stream_counted phase body = here d.count []
+
+    body_counted : (body : Body) → Counts (told d r job body)
+    body_counted (bodies.Append body) = append_counted body
+    body_counted (bodies.Map body) = map_counted job.phase body
+    body_counted (bodies.Seal body) = seal_counted job.phase k absent body
+    body_counted (bodies.Stream body) = stream_counted job.phase body
+    body_counted body = here d.count []
 
     -- an answer to it
-    pub reply_counted : (r : RangeState) (body : Body) → Counts (split_reply d r job body)
-    reply_counted r body = go job.phase k
+    pub reply_counted : (body : Body) → BuildsNew w r job (split_reply d r job body)
+    reply_counted body = go job.phase
       where
-        go : (phase : SplitPhase) → (IsNumbered phase → Counted) → Counts (split_reply_in d r job phase body)
-        go (phases.Keys side c) both = told_counted r (both tt) side (reply_rule (picking d c) (request d) body) (reply_rule (picking d c) (request d) body).news
-        go phase both = body_counted r body
+        go : (phase : SplitPhase) → Counts (split_reply_in d r job phase body)
+        go (phases.Keys side c) = told_counted side (reply_rule (picking d c) (request d) body) (reply_rule (picking d c) (request d) body).news
+        go phase = body_counted body
 
-    follow_counted : (r : RangeState) (phase : SplitPhase) → (IsNumbered phase → Counted) → Counts (follows_in d r job phase)
-    follow_counted r phases.Checkpoint both = if_elim Counts (is_some r.control) _ _ (λ t. here) (λ t. drains_counted r (both tt))
-    follow_counted r phases.Queue both = drains_counted r (both tt)
-    follow_counted r phases.Record both = if_elim Counts (has_stood r) _ _ (λ t. seals_counted _ (both tt) _) (λ t. here)
-    follow_counted r phase both = here
+    follow_counted : (phase : SplitPhase) → (IsNumbered phase → Counted) → (stage_of phase ≡ 1 → HasNoSides w job) → Counts (follows_in d r job phase)
+    follow_counted phases.Checkpoint both none = if_elim Counts (is_some r.control) _ _ (λ t. here d.count []) (λ t. drains_counted)
+    follow_counted phases.Queue both none = drains_counted
+    follow_counted phases.Record both none = if_elim Counts (has_stood r) _ _ (λ t. seals_counted _ (both tt) (none refl) _) (λ t. here d.count [])
+    follow_counted phase both none = here d.count []
 
     -- what follows a step of its range
-    pub follows_counted : (r : RangeState) → Counts (follows d r job)
-    follows_counted r = if_elim Counts (has_number d) _ _ (λ t. follow_counted r job.phase k) (λ t. here)
+    pub follows_counted : BuildsNew w r job (follows d r job)
+    follows_counted = if_elim Counts (has_number d) _ _ (λ t. follow_counted job.phase k absent) (λ t. here d.count [])
 
-    again_counted : (r : RangeState) (phase : SplitPhase) → (IsNumbered phase → Counted) → Counts (gives_up_in d r job phase)
-    again_counted r (phases.Begin q) both = here
-    again_counted r (phases.Seal kind q) both = here
-    again_counted r (phases.Build q) both = here
-    again_counted r (phases.Keys side c) both = moved _ (both tt)
-    again_counted r (phases.Complete q) both = here
-    again_counted r phase both = here
+    again_counted : (phase : SplitPhase) → Counts (gives_up_in d r job phase)
+    again_counted (phases.Begin q) = here (suc d.count) (begin_packet d job q ∷ [])
+    again_counted (phases.Seal kind q) = here (suc d.count) (seal_again d (open_last (extents_of r kind)) q)
+    again_counted (phases.Build q) = here (suc d.count) (build_packet d job q ∷ [])
+    again_counted (phases.Keys side c) = keyed (keys_again d r job side c) side (give_up_rule (picking d c) (request d) d.pick).after refl
+    again_counted (phases.Complete q) = here (suc d.count) (complete_packet d job q ∷ [])
+    again_counted phase = here d.count []
 
     -- and where it gives up
-    pub gives_up_counted : (r : RangeState) → Counts (gives_up d r job)
-    gives_up_counted r = if_elim Counts (has_number d) _ _ (λ t. again_counted r job.phase k) (λ t. here)
+    pub gives_up_counted : BuildsNew w r job (gives_up d r job)
+    gives_up_counted = if_elim Counts (has_number d) _ _ (λ t. again_counted job.phase) (λ t. here d.count [])
 
 -- ---- what is known of splits
 

@@ -8,17 +8,19 @@ use Rattle.wire.specs.declared.body.Body.{Body}
 use Rattle.wire.specs.declared.body.Body.TheVariants as bodies
 use Rattle.wire.specs.declared.body.StreamBody.TheVariants as streams
 use Rattle.wire.specs.declared.packet.Packet.{Packet}
+use Rattle.wire.specs.declared.streams.Modify.{Modify}
 use Rattle.client.specs.Client.{awaits}
 use Rattle.model_streams.specs.Maps.{entry_at}
 use Rattle.model_streams.specs.Outcome.{packet}
 use Rattle.model_streams.specs.StreamSystem.{StreamSystem}
+use Rattle.model_partition.specs.declared.split_job.Side.{Side as SplitSide}
 use Rattle.model_partition.specs.declared.split_job.SplitJob.{SplitJob}
 use Rattle.model_partition.specs.declared.table_note.TableNote.{TableNote}
 use Rattle.model_partition.specs.Cluster.{Cluster}
 use Rattle.model_partition.specs.Range.{RangeState, RangeOutcome}
 use Rattle.model_partition.specs.Server.{ServerState, range_of, set_range, split_of, set_split}
 use Rattle.model_partition.specs.Servers.{ServerCell, ServersOutcome, noted, with_told}
-use Rattle.model_partition.specs.Splits.{SplitStep}
+use Rattle.model_partition.specs.Splits.{SplitStep, side_range}
 use Rattle.model_histories.specs.ServerRun.{ServerRun, after_action, after_actions, with_outcome}
 use Rattle.model_histories.specs.StreamActions.{StreamAction, Reads, Forms, Stands, Shows, Finds, Stores}
 use Rattle.laws_stream_machine.specs.Refinement.{asked_number}
@@ -31,11 +33,12 @@ use Rattle.laws_server_runs.specs.Places.{AreAscending}
 use Rattle.laws_server_runs.specs.RunInvariant.{view_at}
 use Rattle.laws_server_runs.proofs.RangeLists.{inserted_here, inserted_other, ascending_inserted, dropped_here, dropped_other, left_here, left_other, ascending_left}
 use Rattle.laws_clusters.proofs.ClientJobs.{AsksBy}
-use Rattle.laws_clusters.proofs.Invariant.{HeldAt, OfRows, Out, here, m_side, l_side, Holds, IsHeld, Runs, Standing, Bases}
+use Rattle.laws_clusters.proofs.Invariant.{HeldAt, SplitAt, IsMaking, IsFirm, KeysStand, OfRows, Out, here, m_side, l_side, Holds, IsHeld, Runs, Standing, Bases}
 use Rattle.laws_clusters.proofs.RangeActions.{SeesBytes}
 use Rattle.laws_clusters.proofs.MapWords.{IsFounded}
-use Rattle.laws_clusters.proofs.RangeRules.{Acted}
+use Rattle.laws_clusters.proofs.RangeRules.{Acted, Turned, turned}
 use Rattle.laws_clusters.proofs.RangeSteps as going
+use Rattle.laws_clusters.proofs.RangeStreams.{IsOfSplit}
 use Rattle.laws_clusters.proofs.RequestNumbers.{used_number, asked_used}
 use Rattle.laws_clusters.proofs.RowRules.{RowsFrom}
 use Rattle.laws_clusters.proofs.RowSteps.{IsNew}
@@ -43,7 +46,7 @@ use Rattle.laws_clusters.proofs.Senders.{none_from_map}
 use Rattle.laws_clusters.proofs.ServerNumbers as numbers
 use Rattle.laws_clusters.proofs.ServerRules as steps
 use Rattle.laws_clusters.proofs.ServerRules.{AreLaid}
-use Rattle.laws_clusters.proofs.StepShapes.{AreLeft, SplitsLeft, RowsWaited, StepWaits}
+use Rattle.laws_clusters.proofs.StepShapes.{AreLeft, SplitsLeft, RowsWaited, StepWaits, own_incarnations, if_other}
 use Rattle.laws_clusters.proofs.SplitRequests.{AllAskOfSplit, one_of_split}
 
 -- ---- runs
@@ -57,7 +60,8 @@ action_outcome s range g y o (Shows start log_end metadata_end) = refl
 action_outcome s range g y o (Finds found) = refl
 action_outcome s range g y o (Stores stored) = refl
 
-actions_outcome : (s range g : ℕ) (y : ServerRun) (o : ServersOutcome) (actions : List StreamAction) → after_actions s range g (with_outcome y o) actions ≡ with_outcome (after_actions s range g y actions) o
+-- and so are all of them
+pub actions_outcome : (s range g : ℕ) (y : ServerRun) (o : ServersOutcome) (actions : List StreamAction) → after_actions s range g (with_outcome y o) actions ≡ with_outcome (after_actions s range g y actions) o
 actions_outcome s range g y o [] = refl
 actions_outcome s range g y o (action ∷ earlier) =
     ap (λ z. after_action s range g z action) (actions_outcome s range g y o earlier) ∙ action_outcome s range g (after_actions s range g y earlier) o action
@@ -156,15 +160,46 @@ module _ (generation : ℕ → ℕ) (nodes target : ℕ) {base : Bases generatio
       let b : Side = going.l_after generation nodes target x.moves range (x.machines range) i st.context (silent t) (FollowsBothIf generation range w i t.job) acted.rule.step.goes in
       (subst (λ j. FollowsBoth generation range w i j next a b) e (subst (λ o. FollowsBothIf generation range w i t.job o a b) is_next acted.rule.step.goes.then)).range_is
 
+  -- the two ranges of its split stand so, as the machines are before the step
+  abbrev pub OwnKeys : SplitStep → Type 0
+  OwnKeys t =
+      (next : RangeState) → t.range ≡ Some next → (later : SplitJob) → t.job ≡ Some later → IsFirm generation base s range → KeysStand generation nodes target x.moves x.machines (y.history s) i next later later.phase
+
+  -- it is none of the two of another split there
+  pub aside_here : (k : ℕ) (other : SplitJob) → SplitAt c.servers s k other → (k ≡ range → ⊥) → IsMaking other.phase → IsFirm generation base s k → (side : SplitSide) → side_range other side ≡ range → ⊥
+  aside_here k other split apart making firm side same = x.aside.unheld s k other split making side r (subst (λ j. HeldAt c.servers s j r) (sym same) held_here)
+
   -- a cluster stands after a step, where what it shows is laid
-  pub step_stands : (t : SplitStep) (notes : List TableNote) (actions : List StreamAction) → Does t actions → AllFromServers t.packets → StepWaits st range t t.packets → (t.range ≡ None → t.job ≡ None) →
-      (t.range ≡ None → (p : Packet) → Contains t.packets p → (q : ReqNo) → used_number p.body ≡ Some q → asked_number p.body ≡ Some q) → AllAskOfSplit c.stream_layer t.packets →
-      (ranges : List (ℕ × RangeState)) → AreLeft st.ranges ranges range t.range → (splits : List (ℕ × SplitJob)) → SplitsLeft st.splits splits range t.job →
-      AreLaid (run_after t notes actions ranges splits) notes → Standing generation nodes target base (cluster_after t notes ranges splits) (run_after t notes actions ranges splits)
-  step_stands t notes actions acted senders waits ends gone builds ranges shape splits split_shape laid =
-      steps.stepped generation nodes target c y x s cell st at is range founded i alone y same_run holds.record_append holds.append t notes actions acted t.packets (may_send_all t.packets senders) waits acted.rule.step.asked ends gone
-      (λ server to list q now m among. one_of_split c.stream_layer t.packets builds (packet (Server server) to (bodies.Stream (streams.MultiModify list q))) now)
-      (none_from_map t.packets senders) (state_after t ranges splits) refl shape split_shape laid
+  module _ (t : SplitStep) (notes : List TableNote) (actions : List StreamAction) (acted : Does t actions) (senders : AllFromServers t.packets) (waits : StepWaits st range t t.packets) (ends : t.range ≡ None → t.job ≡ None)
+      (gone : t.range ≡ None → (p : Packet) → Contains t.packets p → (q : ReqNo) → used_number p.body ≡ Some q → asked_number p.body ≡ Some q) (builds : AllAskOfSplit c.stream_layer t.packets)
+      (own_keys : OwnKeys t) (ranges : List (ℕ × RangeState)) (shape : AreLeft st.ranges ranges range t.range) (splits : List (ℕ × SplitJob)) (split_shape : SplitsLeft st.splits splits range t.job)
+      (laid : AreLaid (run_after t notes actions ranges splits) notes) where
+    abbrev machine_step : Turned generation nodes target c y x range founded i st.context (view_at range y s) t actions
+    machine_step = turned generation nodes target c y x range founded i st.context (view_at range y s) t actions acted
+
+    lists : (server : ℕ) (to : ActorId) (list : List Modify) (q : ReqNo) → Contains t.packets (packet (Server server) to (bodies.Stream (streams.MultiModify list q))) → (m : Modify) → Contains list m → IsOfSplit c.stream_layer list
+    lists server to list q now m among = one_of_split c.stream_layer t.packets builds (packet (Server server) to (bodies.Stream (streams.MultiModify list q))) now
+
+    pub step_stands : Standing generation nodes target base (cluster_after t notes ranges splits) (run_after t notes actions ranges splits)
+    step_stands =
+        steps.stepped generation nodes target c y x s cell st at is range founded i y same_run holds.record_append holds.append t notes actions machine_step t.packets (may_send_all t.packets senders) waits acted.rule.step.asked ends gone
+        lists (none_from_map t.packets senders) (state_after t ranges splits) refl shape split_shape (own_incarnations x.incarnation x.bound s range i x.own x.below alone t.range) aside_here own_keys laid
+
+    -- the machines of other ranges stay
+    pub step_machines : (j : ℕ) → (j ≡ range → ⊥) → step_stands.machines j ≡ x.machines j
+    unfolding step_stands
+    step_machines j apart =
+        (steps.stepped_so generation nodes target c y x s cell st at is range founded i y same_run holds.record_append holds.append t notes actions machine_step t.packets (may_send_all t.packets senders) waits acted.rule.step.asked ends gone
+        lists (none_from_map t.packets senders) (state_after t ranges splits) refl shape split_shape (own_incarnations x.incarnation x.bound s range i x.own x.below alone t.range) aside_here own_keys laid s j).0
+        ∙ if_other range j _ (x.machines j) apart
+
+    -- and the range is of the incarnation that it was of
+    pub step_incarnation : (next : RangeState) → t.range ≡ Some next → step_stands.incarnation s range ≡ Some i
+    unfolding step_stands
+    step_incarnation next is_next =
+        (steps.stepped_so generation nodes target c y x s cell st at is range founded i y same_run holds.record_append holds.append t notes actions machine_step t.packets (may_send_all t.packets senders) waits acted.rule.step.asked ends gone
+        lists (none_from_map t.packets senders) (state_after t ranges splits) refl shape split_shape (own_incarnations x.incarnation x.bound s range i x.own x.below alone t.range) aside_here own_keys laid s range).1
+        ∙ (own_incarnations x.incarnation x.bound s range i x.own x.below alone t.range).here next is_next
 
   -- the range is left so
   pub shape_of : (o : Option RangeState) → AreLeft st.ranges (set_range st.ranges range o) range o

@@ -1,4 +1,4 @@
--- The tables of a run without merges replay, where its splits append their keys as is owed, and servers are told of closed blob streams.
+-- The tables of a run without merges replay.
 use Rattle.std.proofs.Common.{ℕ, List, [], subst}
 use Rattle.model_streams.specs.declared.event.Event.{Event}
 use Rattle.model_streams.specs.StreamSystem.{StreamSystem}
@@ -11,11 +11,11 @@ use Rattle.laws_clusters.specs.ServerEvents.{server_events_after}
 use Rattle.laws_clusters.proofs.BornSo.{run_born_so}
 use Rattle.laws_clusters.proofs.SharesInRuns.{StandsSharing, order, shared_until}
 use Rattle.laws_clusters.proofs.ShownBytes.{texts, all_right}
-use Rattle.laws_clusters.proofs.SplitRuns.{AllOwe, run_splitting}
+use Rattle.laws_clusters.proofs.SplitRuns.{run_splitting}
 use Rattle.laws_clusters.proofs.ToldRanges.{run_replays}
 use Rattle.laws_clusters.proofs.UntoldRanges.{stays_untold}
 
-module _ (nodes servers target batch : ℕ) (events : List Event) (are : AreUnmerged events) (owed : AllOwe nodes servers target batch (first_cluster nodes servers target batch) [] events) where
+module _ (nodes servers target batch : ℕ) (events : List Event) (are : AreUnmerged events) where
   abbrev c : Cluster
   c = cluster_after_all (first_cluster nodes servers target batch) events
 
@@ -24,7 +24,7 @@ module _ (nodes servers target batch : ℕ) (events : List Event) (are : AreUnme
 
   -- it stands, with what its ranges share
   pub stands : StandsSharing nodes target batch servers c coming
-  stands = (run_splitting nodes servers target batch events are owed).sharing
+  stands = (run_splitting nodes servers target batch events are).sharing
 
   -- texts that have all that was observed of extents
   abbrev pub seen_texts : ℕ → Bytes
@@ -37,7 +37,7 @@ module _ (nodes servers target batch : ℕ) (events : List Event) (are : AreUnme
   born : AreBornSo seen_texts batch servers coming
   born = run_born_so seen_texts nodes servers target batch events are (stays_untold seen_texts batch servers)
 
-  pub owed_replays : Replays c.stream_layer.notes
-  owed_replays =
+  pub run_tables : Replays c.stream_layer.notes
+  run_tables =
       run_replays nodes servers target batch events are seen_texts born (order nodes target batch servers c coming stands seen_texts all) (stands.stands.told seen_texts all)
       (λ p r s. shared_until nodes target batch servers c coming stands seen_texts all s.after s.until s.is p r)

@@ -12,13 +12,14 @@ use Rattle.wire.specs.declared.streams.StreamKind.TheVariants as kinds
 use Rattle.client.specs.Client.{awaits}
 use Rattle.client.specs.Requests.{is_same}
 use Rattle.model_streams.specs.StreamSystem.{StreamSystem}
+use Rattle.model_partition.specs.declared.split_job.Side.{Side as SplitSide}
 use Rattle.model_partition.specs.declared.split_job.SplitJob.{SplitJob}
 use Rattle.model_partition.specs.declared.split_job.SplitPhase.{SplitPhase}
 use Rattle.model_partition.specs.declared.split_job.SplitPhase.TheVariants as phases
 use Rattle.model_partition.specs.Range.{RangeState}
-use Rattle.model_partition.specs.Splits.{extents_of, open_last, all_streams}
-use Rattle.laws_stream_machine.specs.Refinement.{Purpose, purpose_of, asked_number}
-use Rattle.laws_ranges.specs.Serves.{Side, known, LastIs, IsAside, IsOfRows, IsForRows}
+use Rattle.model_partition.specs.Splits.{SplitStep, extents_of, open_last, all_streams, side_range}
+use Rattle.laws_stream_machine.specs.Refinement.{Purpose, IsThere, purpose_of, asked_number}
+use Rattle.laws_ranges.specs.Serves.{Side, known, LastIs, IsAside, IsOfRows, IsForRows, metadata_of}
 use Rattle.laws_ranges.specs.SplitJobs.{waits_seal, waits_call, PhaseStands, FollowsBoth, IsForSplit, IsKnownBy, AskedOfSplit}
 use Rattle.laws_ranges.proofs.MachineSteps.{request_same}
 use Rattle.laws_ranges.proofs.RowData.{got}
@@ -62,10 +63,6 @@ by_client r (Some job) body asks = inl asks
 pub clients_send : (r : RangeState) (job : Option SplitJob) (ps : List Packet) → AllIn r ps → AllSent r job ps
 clients_send r job [] all = tt
 clients_send r job (p ∷ ps) all = (by_client r job p.body all.0, clients_send r job ps all.1)
-
-pub sent_both : (r : RangeState) (job : Option SplitJob) (xs ys : List Packet) → AllSent r job xs → AllSent r job ys → AllSent r job (xs ++ ys)
-sent_both r job [] ys a b = b
-sent_both r job (x ∷ xs) ys a b = (a.0, sent_both r job xs ys a.1 b)
 
 -- ---- clients build no streams, and ask the map nothing
 
@@ -227,6 +224,16 @@ clients_of_split w r (p ∷ ps) all = (client_of_split w r p.body all.0, clients
 -- the two ranges of a split that waits for its streams are counted
 abbrev pub BuildsCounted : Option SplitJob → Type 0
 BuildsCounted job = (later : SplitJob) → job ≡ Some later → (q : ReqNo) → later.phase ≡ phases.Build q → (1 ≤ later.low) × (1 ≤ later.high)
+
+-- the metadata of neither of the two ranges of a split is there
+abbrev pub HasNoSides : StreamSystem → SplitJob → Type 0
+HasNoSides w job = (side : SplitSide) → IsThere w (metadata_of (side_range job side)) → ⊥
+
+-- What a step of a split leaves that waits for its streams: the two are counted, and their metadata is not there, unless the split waited for
+-- them before, and it and its range are as they were.
+pub record BuildsNew (w : StreamSystem) (r : RangeState) (job : SplitJob) (t : SplitStep) : Type 0 where
+  pub counted : BuildsCounted t.job
+  pub unbuilt : (later : SplitJob) → t.job ≡ Some later → (q : ReqNo) → later.phase ≡ phases.Build q → ((t.range ≡ Some r) × (job ≡ later)) ⊎ HasNoSides w later
 
 -- where a split waits for its streams these are of one
 abbrev pub BuildIsOfSplit : StreamSystem → Option SplitJob → Type 0

@@ -39,7 +39,7 @@ use Rattle.laws_ranges.proofs.SplitsKept.{both_row_data}
 use Rattle.laws_ranges.proofs.TurnsAsMoves.{is_counted}
 use Rattle.laws_ranges.proofs.WholeRanges.{is_served}
 use Rattle.laws_log_reads.specs.Reads.{HasReadAt, HasReadIf}
-use Rattle.laws_log_reads.proofs.SplitRecords.{split_says}
+use Rattle.laws_log_reads.proofs.SplitGroups.{split_says}
 use Rattle.laws_clusters.proofs.AckedAppends.{out_acked, record_acked, split_acked}
 use Rattle.laws_clusters.proofs.ClientJobs.{AsksBy}
 use Rattle.laws_clusters.proofs.Invariant.{Machines, here, m_side, l_side, Standing, Bases}

@@ -1,6 +1,7 @@
 -- A cluster stands on whatever a server does with a range that is being split: a rule of the range, an answer to its split, giving up, and
 -- the beginning of a split.
 use Rattle.std.proofs.Common.{◌≡◌, ℕ, suc, true, false, List, [], ◌++◌, Option, Some, None, Contains, refl, sym, ap, ◌∙◌, subst, inl, inr, arith, append-nil}
+use Rattle.std.proofs.lemmas.Option.{same_Some}
 use Rattle.wire.specs.declared.actor.ActorId.{ActorId}
 use Rattle.wire.specs.declared.actor.ActorId.TheVariants.{Server}
 use Rattle.wire.specs.declared.actor.ReqNo.{ReqNo}
@@ -31,19 +32,21 @@ use Rattle.model_partition.specs.Splits.{SplitStep, open_last, new_split, split_
 use Rattle.model_histories.specs.ServerRun.{ServerRun, RangeEffect, Does, Tells, Rests}
 use Rattle.model_histories.specs.StreamActions.{StreamAction, SideAction, keys_said, keys_told, sides_in, split_sides, transact_actions, answer_actions, split_stood, followed_actions}
 use Rattle.laws_ranges.specs.SplitJobs.{waits_seal, waits_call, TellsBuilt, LeavesKeys, SplitSees}
+use Rattle.laws_ranges.proofs.SplitsPaused.{KeepsKeys, KeepsKeysIf, IsRecorded, transact_keeps, get_keeps, answer_keeps, give_up_keeps}
 use Rattle.laws_ranges.proofs.SplitBegins.{begins_split}
 use Rattle.laws_ranges.proofs.SplitReplies.{reply_split}
 use Rattle.laws_stream_machine.proofs.ServerRequests.{same_request}
 use Rattle.laws_clusters.proofs.RangeRules.{both, metadata_below, log_below}
 use Rattle.laws_clusters.proofs.RowSteps.{WasOut, IsNew}
 use Rattle.laws_clusters.proofs.MapWords.{IsFounded}
-use Rattle.laws_clusters.proofs.SplitRequests.{AllSent, BuildsCounted}
+use Rattle.laws_clusters.proofs.SplitRequests.{AllSent, BuildsNew}
 use Rattle.laws_ranges.proofs.SplitsKept.{both_under, both_row_data}
 use Rattle.laws_servers.specs.Sending.{AllFromServers}
 use Rattle.laws_servers.proofs.ClientPackets.{from_servers}
 use Rattle.laws_servers.proofs.RangeSteps.{transact_tidy, get_tidy, answer_shows, give_up_tidy}
 use Rattle.laws_server_runs.specs.RunInvariant.{view_at}
-use Rattle.laws_clusters.proofs.Invariant.{m_side, l_side, Standing, Bases}
+use Rattle.laws_clusters.proofs.Invariant.{IsMaking, m_side, l_side, KeysStand, Standing, Bases}
+use Rattle.laws_clusters.proofs.KeptKeys.{making_recorded}
 use Rattle.laws_clusters.proofs.OtherEvents.{rule_done, run_done}
 use Rattle.laws_clusters.proofs.RowPurposes.{rows_unread}
 use Rattle.laws_clusters.proofs.RowRules.{LeavesRows, transact_leaves, get_leaves, answer_leaves, give_up_leaves}
@@ -72,23 +75,30 @@ module _ (generation : ℕ → ℕ) (nodes target : ℕ) {base : Bases generatio
       sym (both_under generation range (one.w generation nodes target c y x s cell st at is range r found (Some job) was) i (m_side generation (x.machines range) i) (l_side generation (x.machines range) i) r (Some job)
       (one.holds generation nodes target c y x s cell st at is range r found (Some job) was).follows)
 
+  -- while the two ranges are being made the record of the split stands
+  recorded : IsMaking job.phase → IsRecorded r
+  recorded making =
+      let i : ℕ = one.i generation nodes target c y x s cell st at is range r found (Some job) was in
+      making_recorded generation range (one.w generation nodes target c y x s cell st at is range r found (Some job) was) i (m_side generation (x.machines range) i) (l_side generation (x.machines range) i) r job job.phase making
+      (one.holds generation nodes target c y x s cell st at is range r found (Some job) was).follows.stands
+
   -- What is owed besides of what a rule of the range leaves: nobody appends to its blob stream, so that the last extent of that is sealed;
-  -- and the two ranges of which the split is then to build streams are counted.
+  -- and the two ranges of which the split is then to build streams are counted, and not there yet.
   pub record Owed (o : RangeOutcome) : Type 0 where
     pub blob : (next : RangeState) → o.after ≡ Some next → open_last next.blob_data.extents ≡ None
-    pub builds : (next : RangeState) → o.after ≡ Some next → BuildsCounted (follows (counted st.context o) next job).job
+    pub builds : (next : RangeState) → o.after ≡ Some next → BuildsNew c.stream_layer next job (follows (counted st.context o) next job)
 
   -- a rule of the range, and what its split then does
-  rule_good : (o : RangeOutcome) (actions : List StreamAction) → Acts o actions → AllFromServers o.packets → LeavesRows st.context r.rows o → Owed o →
+  rule_good : (o : RangeOutcome) (actions : List StreamAction) → Acts o actions → AllFromServers o.packets → LeavesRows st.context r.rows o → (IsMaking job.phase → KeepsKeysIf r o.after) → Owed o →
       Good (Does range r.load.generation (followed_actions (counted st.context o) (Some job) o.after ++ actions)) (stepped_splitting st range job o o.after)
-  rule_good o actions acted senders left owed = go o.after refl
+  rule_good o actions acted senders left kept owed = go o.after refl
     where
       go : (a : Option RangeState) → o.after ≡ a → Good (Does range r.load.generation (followed_actions (counted st.context o) (Some job) a ++ actions)) (stepped_splitting st range job o a)
       go None gone =
           subst (λ g. Good (Does range g actions) (stepped_splitting st range job o None)) under
           (λ laid. split.drop_stands generation nodes target c y x s cell st at is range r found job was o o.notes actions acted senders left gone laid)
       go (Some next) there =
-          behind.follow_stands generation nodes target c y x s cell st at is range r found job was o actions acted senders left next there (owed.blob next there) (owed.builds next there)
+          behind.follow_stands generation nodes target c y x s cell st at is range r found job was o actions acted senders left next there (λ making. subst (KeepsKeysIf r) there (kept making)) (owed.blob next there) (owed.builds next there)
 
   -- ---- rules
 
@@ -108,7 +118,7 @@ module _ (generation : ℕ → ℕ) (nodes target : ℕ) {base : Bases generatio
       (transact_beside generation nodes target c y x range founded i st.context (one.sent_by generation nodes target c y x s cell st at is range r found (Some job) was) (view_at range y s)
       (one.seen_here generation nodes target c y x s cell st at is range r found (Some job) was) r job (one.holds generation nodes target c y x s cell st at is range r found (Some job) was).follows
       (one.past_rows generation nodes target c y x s cell st at is range r found (Some job) was) from q changes)
-      (from_servers o.packets (transact_tidy st.context r from q changes).0) (transact_leaves st.context r from q changes) owed
+      (from_servers o.packets (transact_tidy st.context r from q changes).0) (transact_leaves st.context r from q changes) (λ making. transact_keeps st.context r from q changes) owed
 
   pub get_good : (from : ActorId) (q : ReqNo) (key : List ℕ) → Owed (get_rule st.context r from q key) →
       Good (Does range r.load.generation (followed_actions (counted st.context (get_rule st.context r from q key)) (Some job) (get_rule st.context r from q key).after)) (stepped_splitting st range job (get_rule st.context r from q key) (get_rule st.context r from q key).after)
@@ -119,7 +129,7 @@ module _ (generation : ℕ → ℕ) (nodes target : ℕ) {base : Bases generatio
       (get_beside generation nodes target c y x range founded i st.context (one.sent_by generation nodes target c y x s cell st at is range r found (Some job) was) (view_at range y s)
       (one.seen_here generation nodes target c y x s cell st at is range r found (Some job) was) r job (one.holds generation nodes target c y x s cell st at is range r found (Some job) was).follows
       (one.past_rows generation nodes target c y x s cell st at is range r found (Some job) was) from q key)
-      (from_servers o.packets (get_tidy st.context r from q key).0) (get_leaves st.context r from q key) owed)
+      (from_servers o.packets (get_tidy st.context r from q key).0) (get_leaves st.context r from q key) (λ making. get_keeps st.context r from q key) owed)
 
   pub answer_good : (p : Packet) → Contains (one.w generation nodes target c y x s cell st at is range r found (Some job) was).post (packet p.from (Server s) p.body) → is_answerer p.from p.body ≡ true → (u : ReqNo) → answered_number p.body ≡ Some u →
       Owed (answer_rule st.context r u p.body) →
@@ -134,7 +144,7 @@ module _ (generation : ℕ → ℕ) (nodes target : ℕ) {base : Bases generatio
       (answer_beside generation nodes target c y x range founded i st.context (one.sent_by generation nodes target c y x s cell st at is range r found (Some job) was) (view_at range y s)
       (one.seen_here generation nodes target c y x s cell st at is range r found (Some job) was) r job (one.holds generation nodes target c y x s cell st at is range r found (Some job) was).follows
       (one.past_rows generation nodes target c y x s cell st at is range r found (Some job) was) (one.rows_asked generation nodes target c y x s cell st at is range r found (Some job) was) p.from s p.body there gives u number)
-      (from_servers o.packets (answer_shows st.context r u p.body).0) (answer_leaves st.context r u p.body) owed
+      (from_servers o.packets (answer_shows st.context r u p.body).0) (answer_leaves st.context r u p.body) (λ making. answer_keeps st.context r (recorded making) u p.body) owed
 
   -- ---- it gives up, and its split behind it
 
@@ -159,11 +169,15 @@ module _ (generation : ℕ → ℕ) (nodes target : ℕ) {base : Bases generatio
   pub gave_left : LeavesRows st.context r.rows given
   gave_left = give_up_leaves st.context r unread
 
+  -- what its keys are made of is as it was
+  pub gave_kept : (next : RangeState) → given.after ≡ Some next → IsMaking job.phase → KeepsKeys r next
+  gave_kept next there making = subst (KeepsKeysIf r) there (give_up_keeps st.context r (recorded making))
+
   -- what is owed besides: where keys are being appended, their append again; and what is then to be built is of ranges that are counted
   pub record OwedLeaving (next : RangeState) (there : given.after ≡ Some next) : Type 0 where
     pub keys : (side : Side) (k : ClientState) → job.phase ≡ phases.Keys side k →
-        behind.GoesOn generation nodes target c y x s cell st at is range r found job was given [] gave_acted gave_from gave_left next there (keys_again (counted st.context given) next job side k)
-    pub builds : BuildsCounted (gives_up (counted st.context given) next job).job
+        behind.GoesOn generation nodes target c y x s cell st at is range r found job was given [] gave_acted gave_from gave_left next there (gave_kept next there) (keys_again (counted st.context given) next job side k)
+    pub builds : BuildsNew c.stream_layer next job (gives_up (counted st.context given) next job)
 
   pub give_up_good : ((next : RangeState) (there : given.after ≡ Some next) → OwedLeaving next there) → Good Rests (given_up_splitting st range job given given.after)
   give_up_good owed = go given.after refl
@@ -171,16 +185,17 @@ module _ (generation : ℕ → ℕ) (nodes target : ℕ) {base : Bases generatio
       go : (a : Option RangeState) → given.after ≡ a → Good Rests (given_up_splitting st range job given a)
       go None gone = λ laid. split.drop_stands generation nodes target c y x s cell st at is range r found job was given given.notes [] gave_acted gave_from gave_left gone laid
       go (Some next) there =
-          behind.leave_stands generation nodes target c y x s cell st at is range r found job was given [] gave_acted gave_from gave_left next there (owed next there).keys
+          behind.leave_stands generation nodes target c y x s cell st at is range r found job was given [] gave_acted gave_from gave_left next there (gave_kept next there) (owed next there).keys
           (split_gives_up_sends (counted st.context given) next job) (gives_up_leaves (counted st.context given) next job) (owed next there).builds
 
   -- ---- an answer to its split
 
   -- what is so of a step of the split alone, which does this with the streams of the two ranges
   abbrev pub Heard : SplitStep → List SideAction → Type 0
-  Heard t sides = AllFromServers t.packets → Leaves st.context r job t → BuildsCounted t.job → Good (Tells job.generation sides) (split_stepped st range t)
+  Heard t sides = AllFromServers t.packets → Leaves st.context r job t → BuildsNew c.stream_layer r job t → Good (Tells job.generation sides) (split_stepped st range t)
 
-  heard : (t : SplitStep) → SplitSees generation range (one.w generation nodes target c y x s cell st at is range r found (Some job) was) i (view_at range y s) (m_side generation (x.machines range) i) (l_side generation (x.machines range) i) st.context t [] →
+  -- so it is of one that adds nothing to them
+  pub heard : (t : SplitStep) → SplitSees generation range (one.w generation nodes target c y x s cell st at is range r found (Some job) was) i (view_at range y s) (m_side generation (x.machines range) i) (l_side generation (x.machines range) i) st.context t [] →
       LeavesKeys st.context r job t → Heard t []
   heard t sees keys sends leaves builds laid =
       split.split_stands generation nodes target c y x s cell st at is range r found job was t [] []
@@ -195,7 +210,7 @@ module _ (generation : ℕ → ℕ) (nodes target : ℕ) {base : Bases generatio
   -- appends of keys.
   pub record OwedHearing (body : Body) : Type 0 where
     pub numbered : (v : ReqNo) → job.phase ≡ phases.Begin v → (q : ReqNo) (low high : ℕ) → body ≡ bodies.Map (maps.SplitBegun q low high) → (low ≡ range → ⊥) × (high ≡ range → ⊥)
-    pub builds : BuildsCounted (split_reply st.context r job body).job
+    pub builds : BuildsNew c.stream_layer r job (split_reply st.context r job body)
     pub says : TellsBuilt body → (q : ReqNo) → job.phase ≡ phases.Build q → Heard (says_keys st.context r job Low) (keys_said r job Low)
     pub keys : (side : Side) (k : ClientState) → job.phase ≡ phases.Keys side k → Heard (keys_reply st.context r job side k body) (keys_told r job side k (reply_rule (picking st.context k) (request st.context) body).news)
 
@@ -305,10 +320,16 @@ module _ (generation : ℕ → ℕ) (nodes target : ℕ) {base : Bases generatio
       new_call : (q : ReqNo) → is_same (request st.context) q ≡ true → IsNew st.context (suc st.context.count) q
       new_call q same = (st.context.count, omega arith, omega arith, sym (same_request (request st.context) q same))
 
+  -- it waits for the numbers of the two
+  begun_keys : one.OwnKeys generation nodes target c y x s cell st at is range r found None was begun
+  begun_keys next is_next later is_later firm =
+      let same : begun_job ≡ later = same_Some begun_job later is_later in
+      subst (λ (z : SplitJob). KeysStand generation nodes target x.moves x.machines (y.history s) at_i next z z.phase) same tt
+
   pub begins_good : AreLaid (run_done c y s cell Rests (split_stepped st range begun)) [] → Standing generation nodes target base (rule_done c s cell (split_stepped st range begun)) (run_done c y s cell Rests (split_stepped st range begun))
   begins_good laid =
       one.step_stands generation nodes target c y x s cell st at is range r found None was begun [] [] begun_acted (split_sends st.context r key) begun_waits (λ e. absurd (let z : Some r ≡ None = e in cc)) (λ e. absurd (let z : Some r ≡ None = e in cc))
-      (tt, tt) (set_range st.ranges range (Some r)) (one.shape_of generation nodes target c y x s cell st at is range r found None was (Some r)) (set_split st.splits range (Some begun_job))
+      (tt, tt) begun_keys (set_range st.ranges range (Some r)) (one.shape_of generation nodes target c y x s cell st at is range r found None was (Some r)) (set_split st.splits range (Some begun_job))
       (one.splits_of generation nodes target c y x s cell st at is range r found None was (Some begun_job)) laid
 
 -- What is owed besides at a server whose ranges are being split, for what it takes: see each of them.
@@ -319,7 +340,7 @@ pub record SplitsOwed (generation : ℕ → ℕ) (nodes target : ℕ) {base : Ba
       Owed generation nodes target c y x s cell st at is range r found job was (get_rule st.context r from q key)
   pub answers : (range : ℕ) (r : RangeState) (found : range_of st.ranges range ≡ Some r) (job : SplitJob) (was : split_of st.splits range ≡ Some job) (p : Packet) → Contains c.stream_layer.post p → p.to ≡ Server s → (u : ReqNo) → answered_number p.body ≡ Some u →
       Owed generation nodes target c y x s cell st at is range r found job was (answer_rule st.context r u p.body)
-  pub hears : (range : ℕ) (r : RangeState) (found : range_of st.ranges range ≡ Some r) (job : SplitJob) (was : split_of st.splits range ≡ Some job) (p : Packet) → Contains c.stream_layer.post p → p.to ≡ Server s → (u : ReqNo) →
+  pub hears : (range : ℕ) (r : RangeState) (found : range_of st.ranges range ≡ Some r) (job : SplitJob) (was : split_of st.splits range ≡ Some job) (p : Packet) → Contains c.stream_layer.post p → p.to ≡ Server s → is_answerer p.from p.body ≡ true → (u : ReqNo) →
       answered_number p.body ≡ Some u → phase_awaits job.phase u ≡ true → OwedHearing generation nodes target c y x s cell st at is range r found job was p.body
 
 -- and where it gives up
@@ -327,20 +348,3 @@ abbrev pub LeavingOwed : (generation : ℕ → ℕ) (nodes target : ℕ) {base :
 LeavingOwed generation nodes target c y x s cell st at is =
     (range : ℕ) (r : RangeState) (found : range_of st.ranges range ≡ Some r) (job : SplitJob) (was : split_of st.splits range ≡ Some job) (next : RangeState) (there : (give_up_all st.context r).after ≡ Some next) →
     OwedLeaving generation nodes target c y x s cell st at is range r found job was next there
-
--- where nothing is split nothing is owed
-not_split : (st : ServerState) → st.splits ≡ [] → (range : ℕ) (job : SplitJob) → split_of st.splits range ≡ Some job → ⊥
-not_split st none range job was = let z : None ≡ Some job = sym (ap (λ l. split_of l range) none) ∙ was in cc
-
-pub none_owed : (generation : ℕ → ℕ) (nodes target : ℕ) {base : Bases generation} (c : Cluster) (y : ServerRun) (x : Standing generation nodes target base c y) (s : ℕ) (cell : ServerCell) (st : ServerState) (at : entry_at c.servers s ≡ Some cell) (is : cell.state ≡ Some st) → st.splits ≡ [] →
-    SplitsOwed generation nodes target c y x s cell st at is
-none_owed generation nodes target c y x s cell st at is none = record {
-  transacts = λ range r found job was from q changes. absurd (not_split st none range job was);
-  gets = λ range r found job was from q key. absurd (not_split st none range job was);
-  answers = λ range r found job was p there to u number. absurd (not_split st none range job was);
-  hears = λ range r found job was p there to u number waits. absurd (not_split st none range job was);
-}
-
-pub none_leaving : (generation : ℕ → ℕ) (nodes target : ℕ) {base : Bases generation} (c : Cluster) (y : ServerRun) (x : Standing generation nodes target base c y) (s : ℕ) (cell : ServerCell) (st : ServerState) (at : entry_at c.servers s ≡ Some cell) (is : cell.state ≡ Some st) → st.splits ≡ [] →
-    LeavingOwed generation nodes target c y x s cell st at is
-none_leaving generation nodes target c y x s cell st at is none range r found job was next there = absurd (not_split st none range job was)

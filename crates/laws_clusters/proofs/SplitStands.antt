@@ -1,5 +1,6 @@
 -- A cluster stands on where a range that is being split takes a step, and its split goes on behind it, gives up behind it, or goes with it.
 use Rattle.std.proofs.Common.{◌≡◌, ◌⊎◌, ℕ, ◌≤◌, true, false, List, [], ◌∷◌, Option, Some, None, refl, sym, ap, ◌∙◌, subst, inl, inr}
+use Rattle.std.proofs.lemmas.Option.{same_Some}
 use Rattle.wire.specs.declared.actor.ReqNo.{ReqNo}
 use Rattle.wire.specs.declared.body.Body.{Body}
 use Rattle.wire.specs.declared.body.Body.TheVariants as bodies
@@ -18,15 +19,18 @@ use Rattle.model_partition.specs.Cluster.{Cluster}
 use Rattle.model_partition.specs.Range.{RangeState, RangeOutcome}
 use Rattle.model_partition.specs.Server.{ServerState, range_of, set_range, split_of, set_split}
 use Rattle.model_partition.specs.Servers.{ServerCell}
-use Rattle.model_partition.specs.Splits.{SplitStep}
+use Rattle.model_partition.specs.Splits.{SplitStep, side_range}
 use Rattle.model_histories.specs.ServerRun.{ServerRun}
 use Rattle.model_histories.specs.StreamActions.{StreamAction}
 use Rattle.laws_loads.specs.RangeView.{RangeView}
-use Rattle.laws_ranges.specs.Serves.{Side, after_turns}
+use Rattle.laws_stream_machine.specs.Refinement.{IsThere}
+use Rattle.laws_ranges.specs.Serves.{Side, after_turns, metadata_of}
 use Rattle.laws_ranges.specs.SplitJobs.{waits_seal, waits_call, IsForSplit, IsBuildOf, IsUnkeyed, IsUnkeyedIf, AskedOfSplit, SplitSees}
+use Rattle.laws_ranges.proofs.SplitsPaused.{KeepsKeys}
 use Rattle.laws_servers.specs.Sending.{AllFromServers}
 use Rattle.laws_server_runs.specs.RunInvariant.{view_at}
-use Rattle.laws_clusters.proofs.Invariant.{m_side, l_side, Standing, Bases}
+use Rattle.laws_clusters.proofs.Invariant.{HeldAt, SplitAt, IsMaking, m_side, l_side, IsFirm, KeysStand, Standing, Bases}
+use Rattle.laws_clusters.proofs.KeptKeys.{keys_same}
 use Rattle.laws_clusters.proofs.RowRules.{AsksIn, AllIn, RowsIf}
 use Rattle.laws_clusters.proofs.RowSteps.{WasOut, IsNew}
 use Rattle.laws_clusters.proofs.ServerRules.{AreLaid}
@@ -35,7 +39,7 @@ use Rattle.laws_clusters.proofs.SplitLeaves.{IsKeyed, LeavesUnkeyed, same_out, S
 use Rattle.laws_clusters.proofs.MapWords.{IsFounded}
 use Rattle.laws_clusters.proofs.RangeStreams.{HasStreams}
 use Rattle.laws_clusters.proofs.SplitPackets as one
-use Rattle.laws_clusters.proofs.SplitRequests.{AllSent, sent_in, clients_send, in_used, BuildsCounted, AllAskOfSplit, clients_of_split, sent_of_split}
+use Rattle.laws_clusters.proofs.SplitRequests.{AllSent, sent_in, clients_send, in_used, BuildsNew, AllAskOfSplit, clients_of_split, sent_of_split}
 use Rattle.laws_clusters.proofs.SplitRules.{beside_step}
 
 -- ---- a range that goes tells its users alone
@@ -126,6 +130,25 @@ module _ (generation : ℕ → ℕ) (nodes target : ℕ) {base : Bases generatio
   abbrev pub IsShown : SplitStep → List TableNote → List StreamAction → List (ℕ × RangeState) → List (ℕ × SplitJob) → Type 0
   IsShown t notes actions ranges splits = AreLaid (one.run_after generation nodes target c y x s cell st at is range r found (Some job) was t notes actions ranges splits) notes
 
+  -- ---- keys
+
+  -- the two ranges of its split stand so, as the machines are before the step
+  abbrev OwnKeys : SplitStep → Type 0
+  OwnKeys t = one.OwnKeys generation nodes target c y x s cell st at is range r found (Some job) was t
+
+  -- they stand before it
+  pub keys_before : IsFirm generation base s range → KeysStand generation nodes target x.moves x.machines (y.history s) i r job job.phase
+  keys_before firm =
+      let held : HeldAt c.servers s range r = record { cell = cell; state = st; there = at; up = is; found = found } in
+      let split : SplitAt c.servers s range job = record { cell = cell; state = st; there = at; up = is; found = was } in
+      x.keys s range r job held split firm i (one.held generation nodes target c y x s cell st at is range r found (Some job) was).is
+
+  -- of both as they were
+  keys_stay : (next : RangeState) → r ≡ next → (later : SplitJob) → job ≡ later → IsFirm generation base s range → KeysStand generation nodes target x.moves x.machines (y.history s) i next later later.phase
+  keys_stay next same later stays firm =
+      subst (λ (z : SplitJob). KeysStand generation nodes target x.moves x.machines (y.history s) i next z z.phase) stays
+      (subst (λ (z : RangeState). KeysStand generation nodes target x.moves x.machines (y.history s) i z job job.phase) same (keys_before firm))
+
   -- ---- a rule of the range, whose split stays
 
   seal_same : (later : SplitJob) → Some job ≡ Some later → (q : ReqNo) → waits_seal later.phase q ≡ true → SealWaited st range q
@@ -148,12 +171,19 @@ module _ (generation : ℕ → ℕ) (nodes target : ℕ) {base : Bases generatio
         sent = clients_send next (Some job) o.packets have.1;
       }
 
-  -- it is left there
+  rule_keys : (o : RangeOutcome) (next : RangeState) → o.after ≡ Some next → (IsMaking job.phase → KeepsKeys r next) → OwnKeys (beside_step job o)
+  rule_keys o next is_next kept other is_other later is_later firm =
+      let same : next ≡ other = same_Some next other (sym is_next ∙ is_other) in
+      let stays : job ≡ later = same_Some job later is_later in
+      subst (λ (z : SplitJob). KeysStand generation nodes target x.moves x.machines (y.history s) i other z z.phase) stays
+      (subst (λ (z : RangeState). KeysStand generation nodes target x.moves x.machines (y.history s) i z job job.phase) same (keys_same generation nodes target x.moves x.machines (y.history s) i r next job job.phase kept (keys_before firm)))
+
+  -- it is left there, and what its keys are made of as it was
   pub rule_stands : (o : RangeOutcome) (notes : List TableNote) (actions : List StreamAction) → Does (beside_step job o) actions → AllFromServers o.packets → RowsIf st.context r.rows o.count o.packets o.after → (next : RangeState) → o.after ≡ Some next →
-      IsShown (beside_step job o) notes actions (set_range st.ranges range o.after) st.splits → Stands (beside_step job o) notes actions (set_range st.ranges range o.after) st.splits
-  rule_stands o notes actions acted senders left next is_next shown =
+      (IsMaking job.phase → KeepsKeys r next) → IsShown (beside_step job o) notes actions (set_range st.ranges range o.after) st.splits → Stands (beside_step job o) notes actions (set_range st.ranges range o.after) st.splits
+  rule_stands o notes actions acted senders left next is_next kept shown =
       one.step_stands generation nodes target c y x s cell st at is range r found (Some job) was (beside_step job o) notes actions acted senders (rule_waits o actions acted left) (λ gone. absurd (let z : Some next ≡ None = sym is_next ∙ gone in cc))
-      (λ gone. absurd (let z : Some next ≡ None = sym is_next ∙ gone in cc)) (clients_of_split c.stream_layer next o.packets asks) (set_range st.ranges range o.after) (one.shape_of generation nodes target c y x s cell st at is range r found (Some job) was o.after) st.splits
+      (λ gone. absurd (let z : Some next ≡ None = sym is_next ∙ gone in cc)) (clients_of_split c.stream_layer next o.packets asks) (rule_keys o next is_next kept) (set_range st.ranges range o.after) (one.shape_of generation nodes target c y x s cell st at is range r found (Some job) was o.after) st.splits
       (one.same_splits generation nodes target c y x s cell st at is range r found (Some job) was) shown
     where
       asks : AllIn next o.packets
@@ -168,7 +198,7 @@ module _ (generation : ℕ → ℕ) (nodes target : ℕ) {base : Bases generatio
   drop_stands o notes actions acted senders left gone shown =
       one.step_stands generation nodes target c y x s cell st at is range r found (Some job) was (gone_step o) notes actions went senders (λ next is_next. absurd (let z : None ≡ Some next = is_next in cc)) (λ e. refl)
       (λ e p there q number. in_used r p.body q (sent_in r None o.packets (clients_send r None o.packets (plain r)) p there) number) (clients_of_split c.stream_layer r o.packets (plain r))
-      (set_range st.ranges range None) (one.shape_of generation nodes target c y x s cell st at is range r found (Some job) was None) (set_split st.splits range None) (one.splits_of generation nodes target c y x s cell st at is range r found (Some job) was None) shown
+      (λ next is_next later is_later firm. absurd (let z : None ≡ Some later = is_later in cc)) (set_range st.ranges range None) (one.shape_of generation nodes target c y x s cell st at is range r found (Some job) was None) (set_split st.splits range None) (one.splits_of generation nodes target c y x s cell st at is range r found (Some job) was None) shown
     where
       plain : (n : RangeState) → AllIn n o.packets
       plain = subst (λ a. RowsIf st.context r.rows o.count o.packets a) gone left
@@ -255,12 +285,33 @@ module _ (generation : ℕ → ℕ) (nodes target : ℕ) {base : Bases generatio
       by_job None e k = e
       by_job (Some later) e k = absurd (subst (λ z. LeavesIn st.context r job None z t.count t.packets) e k)
 
+  -- no keys are appended: both are as they were, or the streams are asked for while those of neither range are there, or they are not asked for
+  split_keys : (t : SplitStep) → LeavesUnkeyed st.context r job t → BuildsNew c.stream_layer r job t → OwnKeys t
+  split_keys t (inl same) builds next is_next later is_later firm =
+      keys_stay next (same_Some r next (sym (ap (λ (z : SplitStep). z.range) same) ∙ is_next)) later (same_Some job later (sym (ap (λ (z : SplitStep). z.job) same) ∙ is_later)) firm
+  split_keys t (inr unkeyed) builds next is_next later is_later firm = go later.phase refl (subst (λ z. IsUnkeyedIf z) is_later unkeyed)
+    where
+      go : (phase : SplitPhase) → later.phase ≡ phase → IsUnkeyed later.phase → KeysStand generation nodes target x.moves x.machines (y.history s) i next later later.phase
+      go (phases.Keys side k) e none = absurd (subst IsUnkeyed e none)
+      go (phases.Build q) e none = elim (builds.unbuilt later is_later q e) [
+        | inl same ↦ keys_stay next (same_Some r next (sym same.0 ∙ is_next)) later same.1 firm
+        | inr absent ↦
+            subst (λ p. KeysStand generation nodes target x.moves x.machines (y.history s) i next later p) (sym e)
+            (λ side there. absurd (absent side (subst (λ (z : StreamSystem). IsThere z (metadata_of (side_range later side))) x.leads there)))
+      ]
+      go (phases.Begin q) e none = subst (λ p. KeysStand generation nodes target x.moves x.machines (y.history s) i next later p) (sym e) tt
+      go phases.Checkpoint e none = subst (λ p. KeysStand generation nodes target x.moves x.machines (y.history s) i next later p) (sym e) tt
+      go phases.Queue e none = subst (λ p. KeysStand generation nodes target x.moves x.machines (y.history s) i next later p) (sym e) tt
+      go phases.Record e none = subst (λ p. KeysStand generation nodes target x.moves x.machines (y.history s) i next later p) (sym e) tt
+      go (phases.Seal kind q) e none = subst (λ p. KeysStand generation nodes target x.moves x.machines (y.history s) i next later p) (sym e) tt
+      go (phases.Complete q) e none = subst (λ p. KeysStand generation nodes target x.moves x.machines (y.history s) i next later p) (sym e) tt
+
   -- the split goes on
-  pub split_stands : (t : SplitStep) (notes : List TableNote) (actions : List StreamAction) → Does t actions → AllFromServers t.packets → Leaves st.context r job t → LeavesUnkeyed st.context r job t → BuildsCounted t.job →
+  pub split_stands : (t : SplitStep) (notes : List TableNote) (actions : List StreamAction) → Does t actions → AllFromServers t.packets → Leaves st.context r job t → LeavesUnkeyed st.context r job t → BuildsNew c.stream_layer r job t →
       (ranges : List (ℕ × RangeState)) → AreLeft st.ranges ranges range t.range → (splits : List (ℕ × SplitJob)) → SplitsLeft st.splits splits range t.job → IsShown t notes actions ranges splits → Stands t notes actions ranges splits
   split_stands t notes actions acted senders leaves keys builds ranges shape splits split_shape shown =
       one.step_stands generation nodes target c y x s cell st at is range r found (Some job) was t notes actions acted senders (split_waits t actions acted leaves keys) (split_ends t leaves)
-      (λ gone p there q number. in_used r p.body q (sent_in r None t.packets (clients_send r None t.packets (plain gone r)) p there) number) (of_split t.range refl) ranges shape splits split_shape shown
+      (λ gone p there q number. in_used r p.body q (sent_in r None t.packets (clients_send r None t.packets (plain gone r)) p there) number) (of_split t.range refl) (split_keys t keys builds) ranges shape splits split_shape shown
     where
       plain : t.range ≡ None → (n : RangeState) → AllIn n t.packets
       plain gone = subst (λ z. LeavesIn st.context r job None z t.count t.packets) (split_ends t leaves gone) (subst (λ a. LeavesIn st.context r job a t.job t.count t.packets) gone leaves)
@@ -272,5 +323,5 @@ module _ (generation : ℕ → ℕ) (nodes target : ℕ) {base : Bases generatio
           (λ later e q phase.
           (let founded : IsFounded c.stream_layer range = one.founded generation nodes target c y x s cell st at is range r found (Some job) was in
           let same : later.range ≡ range = one.range_of_job generation nodes target c y x s cell st at is range r found (Some job) was t actions acted later e next there in
-          record { job = later; is = refl; counted = subst (λ n. 1 ≤ n) (sym same) founded.0; sides = builds later e q phase; streams = subst (HasStreams c.stream_layer) (sym same) founded.1 }))
+          record { job = later; is = refl; counted = subst (λ n. 1 ≤ n) (sym same) founded.0; sides = builds.counted later e q phase; streams = subst (HasStreams c.stream_layer) (sym same) founded.1 }))
           t.packets (split_waits t actions acted leaves keys next there).sent

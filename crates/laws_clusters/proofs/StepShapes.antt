@@ -1,6 +1,6 @@
 -- What a step of a range at a server leaves: of its ranges and its splits, and of what they wait for.
-use Rattle.std.proofs.Common.{◌≡◌, subst, ◌++◌, ◌⊎◌, ⊎_elim, ℕ, suc, ◌<◌, Bool, true, false, List, [], ◌∷◌, length, Option, Some, None, Contains, refl, sym, ap, ◌∙◌, inl, inr, arith, if◌then◌else◌, ◌==◌, ◌&&◌}
-use Rattle.std.proofs.lemmas.Bool.{cases_lt}
+use Rattle.std.proofs.Common.{◌≡◌, subst, ◌++◌, ◌⊎◌, ⊎_elim, ℕ, suc, ◌+◌, ◌<◌, Bool, true, false, List, [], ◌∷◌, length, Option, Some, None, Contains, refl, sym, ap, ◌∙◌, inl, inr, arith, if◌then◌else◌, ◌==◌, ◌&&◌}
+use Rattle.std.proofs.lemmas.Bool.{cases_eq, cases_lt}
 use Rattle.std.proofs.lemmas.Bool.Decides.{nat_tests}
 use Rattle.wire.specs.declared.actor.ReqNo.{ReqNo}
 use Rattle.wire.specs.declared.actor.ReqNo.TheVariants as requests
@@ -15,14 +15,14 @@ use Rattle.model_partition.specs.declared.server_context.ServerContext.{ServerCo
 use Rattle.model_partition.specs.declared.split_job.SplitJob.{SplitJob}
 use Rattle.model_partition.specs.declared.table_note.TableNote.{TableNote}
 use Rattle.model_partition.specs.declared.table_note.TableNote.TheVariants as tables
-use Rattle.model_partition.specs.Servers.{ArePlain}
 use Rattle.model_histories.specs.StreamActions.{PlacedBytes}
 use Rattle.laws_clusters.proofs.ObservedBytes.{tables_behind}
 use Rattle.model_streams.specs.StreamSystem.{StreamSystem}
 use Rattle.model_partition.specs.Past.{Bytes}
 use Rattle.model_partition.specs.Range.{RangeState}
 use Rattle.model_partition.specs.Server.{ServerState, range_of, split_of}
-use Rattle.model_partition.specs.Splits.{SplitStep, all_streams}
+use Rattle.model_partition.specs.Servers.{ServerCell, ArePlain}
+use Rattle.model_partition.specs.Splits.{SplitStep, all_streams, side_range}
 use Rattle.model_histories.specs.ServedTables.{StreamsInOrder}
 use Rattle.model_histories.specs.ServerRun.{ServerRun}
 use Rattle.laws_stream_machine.specs.Refinement.{Purpose, Sent, purpose_of}
@@ -31,7 +31,7 @@ use Rattle.laws_ranges.specs.SplitJobs.{waits_seal, waits_call}
 use Rattle.laws_ranges.proofs.MachineSteps.{newest}
 use Rattle.laws_server_runs.specs.Places.{AreAscending, TablesWithin, bytes_of}
 use Rattle.laws_server_runs.proofs.Actions.{same_test, other_test}
-use Rattle.laws_clusters.proofs.Invariant.{Machines, HasNumber, HasNone, IsSplitAsk}
+use Rattle.laws_clusters.proofs.Invariant.{Machines, HasNumber, HasNone, HeldAt, SplitAt, IsSplitAsk, AreAside}
 use Rattle.laws_clusters.proofs.Elsewhere.{none_of, IsRowsElse, AreRowsElse}
 use Rattle.laws_clusters.proofs.RowSteps.{WasOut, IsNew}
 use Rattle.laws_clusters.proofs.SplitRequests.{AllSent}
@@ -44,16 +44,37 @@ pub record IsNear (s range : ℕ) (y b : ServerRun) : Type 0 where
   pub answered : (j : ℕ) → b.answered j ≡ y.answered j
   pub notes : b.notes ≡ y.notes
 
--- where the streams of a run are in order, the tables that its servers show lie within what was shown and answered
-abbrev pub IsLaid : ServerRun → Type 0
-IsLaid y = (texts : ℕ → Bytes) → ((range : ℕ) → StreamsInOrder texts range y) → TablesWithin texts (bytes_of y) y.notes
+-- where the streams of a run are in order, the tables that its servers show lie within what was shown and answered; and the two ranges of
+-- each split are aside
+pub record AreLaid (y : ServerRun) (notes : List TableNote) : Type 0 where
+  pub within : (texts : ℕ → Bytes) → ((range : ℕ) → StreamsInOrder texts range y) → TablesWithin texts (bytes_of y) notes
+  pub aside : AreAside y.servers
 
--- the same of those that are shown now
-abbrev pub AreLaid : ServerRun → List TableNote → Type 0
-AreLaid y notes = (texts : ℕ → Bytes) → ((range : ℕ) → StreamsInOrder texts range y) → TablesWithin texts (bytes_of y) notes
+-- the same of all that they have shown
+abbrev pub IsLaid : ServerRun → Type 0
+IsLaid y = AreLaid y y.notes
+
+-- so they are where nothing is split
+pub none_aside : (servers : List ServerCell) → ((s k : ℕ) (job : SplitJob) → SplitAt servers s k job → ⊥) → AreAside servers
+none_aside servers none = record {
+  unheld = λ s k job at making side r held. none s k job at;
+  once = λ s k j job other at one making too side part same. absurd (none s k job at);
+  two = λ s k job at making same. none s k job at;
+}
+
+-- and where whoever splits and holds did so before
+pub aside_on : (old new : List ServerCell) → ((s k : ℕ) (job : SplitJob) → SplitAt new s k job → SplitAt old s k job) → ((s k : ℕ) (r : RangeState) → HeldAt new s k r → (q : RangeState) × HeldAt old s k q) → AreAside old → AreAside new
+aside_on old new split held aside = record {
+  unheld = λ s k job at making side r h. (let was = held s (side_range job side) r h in aside.unheld s k job (split s k job at) making side was.0 was.1);
+  once = λ s k j job other at one making too side part same. aside.once s k j job other (split s k job at) (split s j other one) making too side part same;
+  two = λ s k job at making same. aside.two s k job (split s k job at) making same;
+}
 
 pub laid_behind : (y : ServerRun) (before notes : List TableNote) → y.notes ≡ before ++ notes → IsLaid y → AreLaid y notes
-laid_behind y before notes is laid texts order = tables_behind texts (bytes_of y) before notes (subst (λ ns. TablesWithin texts (bytes_of y) ns) is (laid texts order))
+laid_behind y before notes is laid = record {
+  within = λ texts order. tables_behind texts (bytes_of y) before notes (subst (λ ns. TablesWithin texts (bytes_of y) ns) is (laid.within texts order));
+  aside = laid.aside;
+}
 
 plain_within : (texts : ℕ → Bytes) (placed : ℕ → List PlacedBytes) (notes : List TableNote) → ArePlain notes → TablesWithin texts placed notes
 plain_within texts placed [] plain = tt
@@ -62,8 +83,8 @@ plain_within texts placed (tables.Done range generation number ∷ notes) plain 
 plain_within texts placed (tables.Loaded range generation table next ∷ notes) plain = absurd plain
 
 -- so it is where no table is shown
-pub plain_laid : (y : ServerRun) (notes : List TableNote) → ArePlain notes → AreLaid y notes
-plain_laid y notes plain texts order = plain_within texts (bytes_of y) notes plain
+pub plain_laid : (y : ServerRun) (notes : List TableNote) → ArePlain notes → AreAside y.servers → AreLaid y notes
+plain_laid y notes plain aside = record { within = λ texts order. plain_within texts (bytes_of y) notes plain; aside = aside }
 
 -- of a server's ranges one is left so, and all others are as before
 pub record AreLeft (before after : List (ℕ × RangeState)) (range : ℕ) (o : Option RangeState) : Type 0 where
@@ -135,6 +156,24 @@ not_second : (a b : Bool) → b ≡ false → (a && b) ≡ false
 not_second true b e = e
 not_second false b e = refl
 
+-- what is so of one, and of each other
+pub by_one : (range : ℕ) (P : ℕ → Type 0) → P range → ((j : ℕ) → (j ≡ range → ⊥) → P j) → (j : ℕ) → P j
+by_one range P own others j = elim (cases_eq j range) [ inl same ↦ subst P (sym same) own | inr other ↦ others j other ]
+
+-- the same of a value that is another one there
+pub by_if : {A : Type 0} → (range : ℕ) (new : A) (old : ℕ → A) (P : ℕ → A → Type 0) → P range new → ((j : ℕ) → (j ≡ range → ⊥) → P j (old j)) → (j : ℕ) → P j (if j == range then new else old j)
+by_if {A} range new old P own others j = go (j == range) refl
+  where
+    go : (t : Bool) → (j == range) ≡ t → P j (if t then new else old j)
+    go true e = let same : range ≡ j = grind (arith, nat_tests) in subst (λ n. P n new) same own
+    go false e = others j (λ same. grind (arith, nat_tests))
+
+pub if_here : {A : Type 0} → (range : ℕ) (new old : A) → (if range == range then new else old) ≡ new
+if_here {A} range new old = ap (λ t. if t then new else old) (same_test range)
+
+pub if_other : {A : Type 0} → (range j : ℕ) (new old : A) → (j ≡ range → ⊥) → (if j == range then new else old) ≡ old
+if_other {A} range j new old apart = ap (λ t. if t then new else old) (other_test j range apart)
+
 pub other_range : (t s j range : ℕ) → (j ≡ range → ⊥) → ((t == s) && (j == range)) ≡ false
 other_range t s j range apart = not_second (t == s) (j == range) (other_test j range apart)
 
@@ -174,6 +213,32 @@ own_with_one o s range i alone own t u j n k e f = elim (whose o s range i t j k
     | inr there_u ↦ own t u j n k there_t there_u
   ]
 ]
+
+-- The incarnations of ranges at servers after a step at one of them, which this incarnation does: that of the range where it is left, and
+-- those of all others as before.
+pub record Incarnations (before : ℕ → ℕ → Option ℕ) (bound s range i : ℕ) (left : Option RangeState) : Type 0 where
+  pub of : ℕ → ℕ → Option ℕ
+  pub here : (next : RangeState) → left ≡ Some next → of s range ≡ Some i
+  pub others : (t j : ℕ) → ((t == s) && (j == range)) ≡ false → of t j ≡ before t j
+  pub own : (t u j n k : ℕ) → of t j ≡ Some k → of u n ≡ Some k → (t ≡ u) × (j ≡ n)
+  pub below : (t j k : ℕ) → of t j ≡ Some k → k < bound + suc i
+  -- it is of no range at another server
+  pub alone : (t j : ℕ) → before t j ≡ Some i → t ≡ s
+
+module _ (before : ℕ → ℕ → Option ℕ) (bound s range i : ℕ) (own : (t u j n k : ℕ) → before t j ≡ Some k → before u n ≡ Some k → (t ≡ u) × (j ≡ n)) (below : (t j k : ℕ) → before t j ≡ Some k → k < bound) where
+  -- it is, or becomes, that of the range
+  pub own_incarnations : ((t j : ℕ) → before t j ≡ Some i → (t ≡ s) × (j ≡ range)) → (left : Option RangeState) → Incarnations before bound s range i left
+  own_incarnations alone left = record {
+    of = with_one before s range i;
+    here = λ next is. one_here before s range i;
+    others = λ t j test. one_other before s range i t j test;
+    own = own_with_one before s range i alone own;
+    below = λ t j k e. elim (whose before s range i t j k e) [
+      | inl here_t ↦ (let same = here_t.2 in omega (arith, same))
+      | inr there_t ↦ (let less = below t j k there_t in omega (arith, less))
+    ];
+    alone = λ t j e. (alone t j e).0;
+  }
 
 -- ---- numbers and packets
 

@@ -497,8 +497,3 @@ happens_servers w event server to body c = elim (happens_sends w event (packet (
 pub happens_map : (w : StreamSystem) (event : Event) (to : ActorId) (body : Body) →
     Contains (happens w event).post (packet Map to body) → Contains w.post (packet Map to body)
 happens_map w event to body c = elim (happens_sends w event (packet Map to body) c) [ inl a ↦ a | inr a ↦ absurd a.0 ]
-
--- nobody asks the map for other ranges
-pub happens_no_change : (w : StreamSystem) (event : Event) → ((p : Packet) → Contains w.post p → is_range_change p.body ≡ false) →
-    (p : Packet) → Contains (happens w event).post p → is_range_change p.body ≡ false
-happens_no_change w event none p c = elim (happens_sends w event p c) [ inl a ↦ none p a | inr a ↦ a.1 ]

@@ -25,10 +25,9 @@ use Rattle.laws_stream_machine.proofs.LowerLayer.{Below, Happened, is_below, lis
 use Rattle.laws_stream_machine.proofs.SentPackets.{Ahead}
 use Rattle.laws_stream_machine.proofs.StepSequences.{below_all}
 use Rattle.laws_ranges.specs.Serves.{metadata_of}
-use Rattle.laws_clusters.proofs.AbsentStreams.{AllStay}
 use Rattle.laws_clusters.proofs.BuildEvents.{built_in, BuildsNow, happens_builds}
 use Rattle.laws_clusters.proofs.Invariant.{here, IsToBe, IsBeside}
-use Rattle.laws_clusters.proofs.RangeStreams.{AsksOthers, nobody_on}
+use Rattle.laws_clusters.proofs.RangeStreams.{AllStay, AsksOthers, nobody_on}
 use Rattle.laws_clusters.proofs.StreamEvents.{happens_servers}
 
 module _ (generation : ℕ → ℕ) (nodes target : ℕ) (moves : List Move) (event : Event) (one : Machine generation nodes target (metadata_of first_range) moves) where

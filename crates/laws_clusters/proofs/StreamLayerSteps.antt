@@ -1,5 +1,5 @@
 -- A cluster stands on through each event of the stream layer, which may build the streams of two ranges of another's.
-use Rattle.std.proofs.Common.{◌≡◌, ◌⊎◌, ℕ, zero, suc, ◌≤◌, Bool, true, false, List, [], ◌∷◌, ◌++◌, length, map, Option, Some, Contains, slice_get, refl, sym, ap, ◌∙◌, subst, inl, inr, arith, if◌then◌else◌}
+use Rattle.std.proofs.Common.{◌≡◌, ◌⊎◌, ℕ, zero, suc, ◌+◌, ◌≤◌, Bool, true, false, List, [], ◌∷◌, ◌++◌, length, map, Option, Some, Contains, slice_get, refl, sym, ap, ◌∙◌, subst, inl, inr, arith, if◌then◌else◌}
 use Rattle.std.proofs.lemmas.List.{length-append}
 use Rattle.std.proofs.lemmas.Option.{slice_get_within}
 use Rattle.wire.specs.declared.actor.ReqNo.{ReqNo}
@@ -7,40 +7,54 @@ use Rattle.wire.specs.declared.note.Note.{Note}
 use Rattle.wire.specs.declared.streams.StreamKind.TheVariants as kinds
 use Rattle.wire.specs.declared.streams.StreamName.{StreamName}
 use Rattle.replica.specs.Groups.{Group}
+use Rattle.streams.specs.Streams.{stream_of, whole}
+use Rattle.client.specs.Client.{ClientState}
 use Rattle.model_streams.specs.declared.event.Event.{Event}
 use Rattle.model_streams.specs.Maps.{entry_at}
 use Rattle.model_streams.specs.StreamSystem.{StreamSystem, Move, happens, start}
 use Rattle.model_streams.specs.StreamSystem.Move.{Happens}
 use Rattle.laws_streams.proofs.Invariant.{run_moves_push}
+use Rattle.laws_streams.proofs.Listings.{lists_grow}
 use Rattle.laws_streams.proofs.PacketSources.{moved_gains}
+use Rattle.laws_streams.specs.Listings.{Longer}
 use Rattle.model_partition.specs.Cluster.{Cluster}
+use Rattle.model_partition.specs.declared.split_job.Side.{Side as SplitSide}
 use Rattle.model_partition.specs.declared.split_job.SplitJob.{SplitJob}
+use Rattle.model_partition.specs.declared.split_job.SplitPhase.{SplitPhase}
+use Rattle.model_partition.specs.declared.split_job.SplitPhase.TheVariants as phases
 use Rattle.model_partition.specs.Past.{first_range}
+use Rattle.model_partition.specs.Range.{RangeState}
+use Rattle.model_partition.specs.Splits.{side_range}
 use Rattle.model_partition.specs.Server.{ServerState, split_of}
 use Rattle.model_partition.specs.Servers.{ServerCell}
 use Rattle.model_histories.specs.StreamMachine.{MachineState, MachineStep}
 use Rattle.model_histories.specs.ServedTables.{AreSeenAs}
-use Rattle.model_histories.specs.ServerRun.{ServerRun, stream_named}
+use Rattle.model_histories.specs.ServerRun.{ServerRun, RangeHistory, stream_named}
 use Rattle.model_histories.specs.ServerTurns.{Below, after_all, AreMoves}
 use Rattle.model_histories.specs.ServerTurns as machine
-use Rattle.laws_stream_machine.specs.Refinement.{Sent, IsThere, extents_in}
+use Rattle.laws_stream_machine.specs.Refinement.{Sent, IsThere, extents_of, extents_in}
 use Rattle.laws_stream_machine.proofs.BuiltStreams.{Machine}
 use Rattle.laws_stream_machine.proofs.MachineCore.{get_same}
 use Rattle.laws_stream_machine.proofs.SentPackets.{Ahead}
+use Rattle.laws_ranges.specs.Seen.{BeganAt}
 use Rattle.laws_ranges.specs.Serves.{metadata_of, log_of, rows_of, Apart, Wider}
+use Rattle.laws_ranges.specs.SplitJobs.{RestsIs, PhaseStands, FollowsSplit}
+use Rattle.laws_ranges.specs.SplitSides.{SideWaits}
+use Rattle.laws_ranges.proofs.MoreKnown.{told_on}
+use Rattle.laws_ranges.proofs.SplitAnswers.{side_begins}
 use Rattle.laws_server_runs.specs.FamilyMembers.{of_servers}
-use Rattle.laws_clusters.proofs.AbsentStreams.{AllStay}
 use Rattle.laws_clusters.proofs.Copies.{AllSay}
 use Rattle.laws_clusters.proofs.GrownLists.{GrewFrom, grew_on, grew_none}
-use Rattle.laws_clusters.proofs.Invariant.{HeldAt, SeesAll, IsOther, Machines, HasNumber, HasNone, OfRows, OfSeal, Out, AllOut, IsIdle, IsStream, AreBeside, there_below, here, IsHeld, Runs, Standing, Bases}
+use Rattle.laws_clusters.proofs.Invariant.{HeldAt, SplitAt, IsMaking, SeesAll, IsOther, Machines, HasNumber, HasNone, OfRows, OfSeal, Out, AllOut, m_side, l_side, IsIdle, IsStream, AreBeside, there_below, here, IsHeld, KeysStand, Runs, Standing, Bases}
 use Rattle.laws_clusters.proofs.LayerSteps.{layer_same}
 use Rattle.laws_clusters.proofs.MapWords.{all_stay, word_stays}
 use Rattle.laws_clusters.proofs.ObservedBytes.{AreObserved, observed_on, tells_fewer}
 use Rattle.laws_clusters.proofs.OtherRanges.{holds_on, held_on}
 use Rattle.laws_clusters.proofs.RangeSteps.{IsSteady, IsOnward}
-use Rattle.laws_clusters.proofs.RangeStreams.{HasStreams, streams_stay, split_stays}
+use Rattle.laws_clusters.proofs.RangeStreams.{AllStay, HasStreams, streams_stay, split_stays}
 use Rattle.laws_clusters.proofs.RowAnswers.{still_at}
 use Rattle.laws_clusters.proofs.ServerNotes.{server_notes}
+use Rattle.laws_clusters.proofs.SplitSidesKept.{same_keys, SideGoes, side_waits_on, log_rests_on, keys_on}
 use Rattle.laws_clusters.proofs.StreamEvents.{happens_tables, happens_servers, happens_map}
 use Rattle.laws_clusters.proofs.StreamFates.{event_stays, IsUnbuilt, GoesOn, stream_goes}
 
@@ -110,6 +124,13 @@ module _ (generation : ℕ → ℕ) (nodes target : ℕ) where
     stay_there name there =
         subst (λ (u : StreamSystem). IsThere u name) (v_is ∙ ap (λ z. happens z event) x.leads) (stay name (subst (λ (u : StreamSystem). IsThere u name) (sym x.leads) there))
 
+    -- the same streams are there
+    pub there_in : (name : StreamName) → IsThere v name → IsThere (happens c.stream_layer event) name
+    there_in name there = subst (λ (u : StreamSystem). IsThere u name) (v_is ∙ ap (λ z. happens z event) x.leads) there
+
+    pub there_here : (name : StreamName) → IsThere c.stream_layer name → IsThere w name
+    there_here name there = subst (λ (u : StreamSystem). IsThere u name) (sym x.leads) there
+
     -- ---- the machines go on
 
     abbrev m_at : ℕ → List (machine.Move Group generation)
@@ -135,9 +156,9 @@ module _ (generation : ℕ → ℕ) (nodes target : ℕ) where
       l_sent = (x.machines (suc n)).l_sent;
     }
 
-    gone_grows : (range : ℕ) → GrewFrom (base range) (gone_on range).l
+    gone_grows : (range : ℕ) → GrewFrom (base.logs range) (gone_on range).l
     gone_grows zero = x.grows zero
-    gone_grows (suc n) = grew_on (base (suc n)) (map (λ z. Below z) (hl n).steps) (l_at n) (x.grows (suc n))
+    gone_grows (suc n) = grew_on (base.logs (suc n)) (map (λ z. Below z) (hl n).steps) (l_at n) (x.grows (suc n))
 
     pub gone_beside : (range : ℕ) → Unbuilt (metadata_of range) → Unbuilt (log_of range) → AreBeside generation nodes target later range (gone_on range)
     gone_beside zero one_unbuilt two_unbuilt =
@@ -185,10 +206,32 @@ module _ (generation : ℕ → ℕ) (nodes target : ℕ) where
     all_notes : (note : Note) → Contains w.notes note → Contains v.notes note
     all_notes note there = subst (λ (z : StreamSystem). Contains z.notes note) (sym v_is) ((moved_gains w (Happens event)).notes note there)
 
+    -- nothing of a stream that is there is taken back
+    longer_list : (name : StreamName) → IsThere w name → length (extents_in w name) ≤ length (extents_in v name)
+    longer_list name (z, is) =
+        let l : Longer z (stream_of v.catalog.stream name) = (lists_grow nodes target x.moves (Happens event ∷ [])).longer name z is in
+        let before : extents_in w name ≡ whole z = ap extents_of is in
+        let after : extents_in v name ≡ whole z ++ l.begins.rest = ap extents_of l.is ∙ l.begins.is in
+        let long : length (extents_in v name) ≡ length (whole z) + length l.begins.rest = ap length after ∙ length-append (whole z) l.begins.rest in
+        let short : length (extents_in w name) ≡ length (whole z) = ap length before in
+        omega (arith, long, short)
+
+    metadata_onward : (range : ℕ) → IsThere w (metadata_of range) →
+        Wider (metadata_of range) w v (after_all Group generation (x.machines range).m).state (after_all Group generation (gone_on range).m).state (x.machines range).m_sent (gone_on range).m_sent
+    metadata_onward zero there = record {
+      facts = λ f m. m;
+      shut = λ index y at. at;
+      extents = still_at nodes target x.moves (Happens event ∷ []) (metadata_of zero);
+      known = longer_list (metadata_of zero) there;
+      purposes = λ q p e. e;
+    }
+    metadata_onward (suc n) there =
+        wider_ahead (metadata_of (suc n)) w v (after_all Group generation (m_at n)).state (after_all Group generation (gone_on (suc n)).m).state (x.machines (suc n)).m_sent ((hm n).ahead there)
+
     all_onward : (range : ℕ) → 1 ≤ range → HasStreams w range → IsOnward generation nodes target range x.moves later (x.machines range) (gone_on range)
     all_onward zero counted has = absurd (omega (arith, counted))
     all_onward (suc n) counted has = record {
-      metadata = wider_ahead (metadata_of (suc n)) w v (after_all Group generation (m_at n)).state (after_all Group generation (gone_on (suc n)).m).state (x.machines (suc n)).m_sent ((hm n).ahead (has kinds.Metadata));
+      metadata = metadata_onward (suc n) (has kinds.Metadata);
       log = wider_ahead (log_of (suc n)) w v (after_all Group generation (l_at n)).state (after_all Group generation (gone_on (suc n)).l).state (x.machines (suc n)).l_sent ((hl n).ahead (has kinds.Log));
       rows = still_at nodes target x.moves (Happens event ∷ []) (rows_of (suc n));
       notes = all_notes;
@@ -207,10 +250,17 @@ module _ (generation : ℕ → ℕ) (nodes target : ℕ) where
     pub record BuildsSides (sides : ℕ → Bool) (parent : ℕ) : Type 0 where
       pub metadata_unbuilt : (j : ℕ) → sides j ≡ false → Unbuilt (metadata_of j)
       pub log_unbuilt : (j : ℕ) → sides j ≡ false → Unbuilt (log_of j)
-      pub absent : (j : ℕ) → sides j ≡ true → HasStreams w j → ⊥
+      pub absent : (j : ℕ) → sides j ≡ true → IsThere w (metadata_of j) → ⊥
       pub none_done : (j : ℕ) → sides j ≡ true → ((x.machines j).m ≡ []) × ((x.machines j).l ≡ [])
       pub metadata : (j : ℕ) → sides j ≡ true → IsStream generation nodes target later (metadata_of j) (copy_of parent).m []
       pub log : (j : ℕ) → sides j ≡ true → IsStream generation nodes target later (log_of j) (copy_of parent).l []
+      pub same_list : (j : ℕ) → sides j ≡ true → extents_in v (metadata_of j) ≡ extents_in v (metadata_of parent)
+
+    -- Where the metadata of one of the two ranges of a split that is made comes to be there, it is built of that of the range that is split.
+    abbrev pub BringsSides : (ℕ → Bool) → ℕ → Type 0
+    BringsSides sides parent =
+        (s k : ℕ) (job : SplitJob) → SplitAt c.servers s k job → IsMaking job.phase → (side : SplitSide) → IsThere v (metadata_of (side_range job side)) →
+        IsThere w (metadata_of (side_range job side)) ⊎ ((sides (side_range job side) ≡ true) × (parent ≡ k))
 
     module _ (sides : ℕ → Bool) (parent : ℕ) (b : BuildsSides sides parent) (z : ServerRun) (run : IsBuiltRun y z sides parent) where
       abbrev pub next_machines : ℕ → Machines generation
@@ -239,9 +289,9 @@ module _ (generation : ℕ → ℕ) (nodes target : ℕ) where
           (λ j is. gone_beside j (b.metadata_unbuilt j is) (b.log_unbuilt j is))
 
       -- what is built has grown from nothing
-      all_grow : (range : ℕ) → GrewFrom (base range) (next_machines range).l
-      all_grow = by_side (λ j u. GrewFrom (base j) u.l)
-          (λ j is. grew_none (base j) (copy_of parent).l (subst (GrewFrom (base j)) (b.none_done j is).1 (x.grows j)))
+      all_grow : (range : ℕ) → GrewFrom (base.logs range) (next_machines range).l
+      all_grow = by_side (λ j u. GrewFrom (base.logs j) u.l)
+          (λ j is. grew_none (base.logs j) (copy_of parent).l (subst (GrewFrom (base.logs j)) (b.none_done j is).1 (x.grows j)))
           (λ j is. gone_grows j)
 
       -- ---- numbers
@@ -275,7 +325,15 @@ module _ (generation : ℕ → ℕ) (nodes target : ℕ) where
         where
           go : (t : Bool) → sides range ≡ t → t ≡ false
           go false is = refl
-          go true is = absurd (b.absent range is (has_here range (x.there s range r held)))
+          go true is = absurd (b.absent range is (has_here range (x.there s range r held) kinds.Metadata))
+
+      -- nor is one that is there
+      there_apart : (j : ℕ) → IsThere w (metadata_of j) → sides j ≡ false
+      there_apart j there = go (sides j) refl
+        where
+          go : (t : Bool) → sides j ≡ t → t ≡ false
+          go false is = refl
+          go true is = absurd (b.absent j is there)
 
       held_next : (range : ℕ) → sides range ≡ false → next_machines range ≡ gone_on range
       held_next range is = ap (λ (t : Bool). if t then copy_of parent else gone_on range) is
@@ -298,6 +356,76 @@ module _ (generation : ℕ → ℕ) (nodes target : ℕ) where
         splits_ascending = old.splits_ascending;
         split_held = old.split_held;
       }
+
+      -- ---- the two ranges of each split
+
+      -- one that is there goes on
+      one_goes : (s i j : ℕ) → IsThere w (metadata_of j) → SideGoes generation nodes target x.moves later x.machines next_machines (y.history s) (z.history s) i j
+      one_goes s i j there =
+          let same : next_machines j ≡ gone_on j = held_next j (there_apart j there) in
+          record {
+            metadata = subst (λ (u : Machines generation). Wider (metadata_of j) w v (after_all Group generation (x.machines j).m).state (after_all Group generation u.m).state (x.machines j).m_sent u.m_sent) (sym same) (metadata_onward j there);
+            steady = subst (λ u. IsSteady generation (x.machines j) u i) (sym same) (all_steady j i);
+            append = ap (λ (h : RangeHistory). h.append kinds.Metadata) (run.history s j);
+            streams = streams_stay w v stay j;
+          }
+
+      -- a client of the metadata of the range that is split rests as it did
+      parent_rests : (k i : ℕ) → HasStreams w k → (client : ClientState) → RestsIs generation (metadata_of k) w i (m_side generation (x.machines k) i).stand (x.machines k).m_sent client →
+          RestsIs generation (metadata_of k) v i (m_side generation (gone_on k) i).stand (gone_on k).m_sent client
+      parent_rests k i has client b = record {
+        told = told_on generation (metadata_of k) w v i (m_side generation (x.machines k) i).stand (m_side generation (gone_on k) i).stand (x.machines k).m_sent (gone_on k).m_sent (metadata_onward k (has kinds.Metadata)) client b.told;
+        idle = b.idle;
+        live = b.live;
+        stands = (all_steady k i).0 ∙ b.stands;
+      }
+
+      -- one that is built waits as that of the range that is split rests
+      abbrev Waiting : ℕ → RangeState → SplitJob → SplitSide → Machines generation → Type 0
+      Waiting i r job side u = SideWaits generation v i (m_side generation u i) r job side × ((event : ℕ) → BeganAt event ((after_all Group generation u.l).phase i))
+
+      built_waits : (k i : ℕ) (r : RangeState) (job : SplitJob) → HasStreams w k → (q : ReqNo) → job.phase ≡ phases.Build q →
+          FollowsSplit generation k w i (m_side generation (x.machines k) i) (l_side generation (x.machines k) i) r job → parent ≡ k → (side : SplitSide) → sides (side_range job side) ≡ true →
+          Waiting i r job side (next_machines (side_range job side))
+      built_waits k i r job has q at f parent_is side is =
+          subst (Waiting i r job side) (ap (λ (t : Bool). if t then copy_of parent else gone_on (side_range job side)) (sym is))
+          (subst (λ n. Waiting i r job side (copy_of n)) (sym parent_is) (
+            side_begins generation k v i (m_side generation (gone_on k) i).stand (gone_on k).m_sent r job side (b.same_list (side_range job side) is ∙ ap (λ n. extents_in v (metadata_of n)) parent_is) f.under
+                (parent_rests k i has r.metadata stood.0.metadata),
+            (λ event. subst (λ p. BeganAt event p) (sym ((all_steady k i).1 ∙ stood.0.paused.log.stands)) tt),
+          ))
+        where
+          stood : PhaseStands generation k w i (m_side generation (x.machines k) i) (l_side generation (x.machines k) i) r job (phases.Build q)
+          stood = subst (λ p. PhaseStands generation k w i (m_side generation (x.machines k) i) (l_side generation (x.machines k) i) r job p) at f.stands
+
+      -- what the servers know of a range and its split
+      held_split : (s k : ℕ) (r : RangeState) (job : SplitJob) → HeldAt c.servers s k r → SplitAt c.servers s k job → IsHeld generation nodes target x.moves k (x.machines k) (y.history s k) (x.incarnation s k) (Some job) r
+      held_split s k r job held split =
+          let cell_is : split.cell ≡ held.cell = (let both : Some split.cell ≡ Some held.cell = sym split.there ∙ held.there in cc) in
+          let state_is : split.state ≡ held.state = (let both : Some split.state ≡ Some held.state = sym split.up ∙ ap (λ (u : ServerCell). u.state) cell_is ∙ held.up in cc) in
+          let found : split_of held.state.splits k ≡ Some job = subst (λ (u : ServerState). split_of u.splits k ≡ Some job) state_is split.found in
+          subst (λ o. IsHeld generation nodes target x.moves k (x.machines k) (y.history s k) (x.incarnation s k) o r) found ((x.servers s held.cell held.state held.there held.up).held k r held.found)
+
+      module _ (news : BringsSides sides parent) (s k : ℕ) (r : RangeState) (job : SplitJob) (held : HeldAt c.servers s k r) (split : SplitAt c.servers s k job) (i : ℕ) (mine : x.incarnation s k ≡ Some i) where
+        keys_next : (phase : SplitPhase) → job.phase ≡ phase → KeysStand generation nodes target x.moves x.machines (y.history s) i r job phase →
+            KeysStand generation nodes target later next_machines (z.history s) i r job phase
+        keys_next (phases.Build q) at stand = λ side there. elim (news s k job split (subst IsMaking (sym at) tt) side there) [
+          | inl old ↦
+              (let g = one_goes s i (side_range job side) old in
+              let stood = stand side old in (
+                side_waits_on generation nodes target x.moves later x.machines next_machines (y.history s) (z.history s) i job r r (same_keys r) side g stood.0,
+                log_rests_on generation nodes target x.moves later x.machines next_machines (y.history s) (z.history s) i job r r (same_keys r) side g stood.1,
+              ))
+          | inr (is, parent_is) ↦
+              (let h = held_split s k r job held split in
+              let own : h.incarnation ≡ i = (let both : Some h.incarnation ≡ Some i = sym h.is ∙ mine in cc) in
+              built_waits k i r job (has_here k (x.there s k r held)) q at
+              (subst (λ n. FollowsSplit generation k w n (m_side generation (x.machines k) n) (l_side generation (x.machines k) n) r job) own h.holds.follows) parent_is side is)
+        ]
+        keys_next (phases.Keys side client) at stand =
+            keys_on generation nodes target x.moves later x.machines next_machines (y.history s) (z.history s) i job r r (same_keys r) (phases.Keys side client)
+            (λ making part there. (stand.1 part).streams kinds.Metadata) (λ making part there. one_goes s i (side_range job part) there) stand
+        keys_next phase at stand = tt
 
       -- ---- stories
 
@@ -357,8 +485,8 @@ module _ (generation : ℕ → ℕ) (nodes target : ℕ) where
           ap (λ (t : Bool). (if t then copy_of parent else gone_on j).l) is ∙ sym (ap (λ (t : Bool). (if t then copy_of parent else gone_on parent).l) none)
 
       -- an event of the stream layer
-      pub event_stands : Standing generation nodes target base (record c { stream_layer = happens c.stream_layer event }) z
-      event_stands = record {
+      pub event_stands : BringsSides sides parent → Standing generation nodes target base (record c { stream_layer = happens c.stream_layer event }) z
+      event_stands news = record {
         moves = later;
         leads = v_is ∙ ap (λ u. happens u event) x.leads;
         machines = next_machines;
@@ -374,6 +502,7 @@ module _ (generation : ℕ → ℕ) (nodes target : ℕ) where
         first = streams_stay c.stream_layer (happens c.stream_layer event) stay_there first_range x.first;
         there = λ s range r held. streams_stay c.stream_layer (happens c.stream_layer event) stay_there range (x.there s range r held);
         lists = λ server to list q there m among. split_stays c.stream_layer (happens c.stream_layer event) stay_there list (x.lists server to list q (happens_servers c.stream_layer event server to _ there) m among);
+        extends = λ server to stream fence last pick q there. x.extends server to stream fence last pick q (happens_servers c.stream_layer event server to _ there);
         incarnation = x.incarnation;
         bound = x.bound;
         own = x.own;
@@ -381,6 +510,8 @@ module _ (generation : ℕ → ℕ) (nodes target : ℕ) where
         idle = λ i le. by_side (λ j u. IsIdle generation u i) (λ j is. idle_on i le parent) (λ j is. idle_on i le j);
         cells = x.cells ∙ sym run.servers;
         servers = λ s cell st at up. all_run s cell st at up (x.servers s cell st at up);
+        aside = x.aside;
+        keys = λ s range r job held split firm i mine. keys_next news s range r job held split i mine job.phase refl (x.keys s range r job held split firm i mine);
         stories = all_seen;
         says = all_say;
         observed = λ range. observed_on c.stream_layer.notes (happens c.stream_layer event).notes kept_notes (z.shown range) (all_observed range);
@@ -397,6 +528,6 @@ module _ (generation : ℕ → ℕ) (nodes target : ℕ) where
               let steady = all_steady range i in
               (steady.0 ∙ old.0, steady.1 ∙ old.1)
 
-      pub event_machines : (range : ℕ) → event_stands.machines range ≡ next_machines range
+      pub event_machines : (news : BringsSides sides parent) (range : ℕ) → (event_stands news).machines range ≡ next_machines range
       unfolding event_stands
-      event_machines range = refl
+      event_machines news range = refl

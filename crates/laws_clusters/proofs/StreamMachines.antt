@@ -55,9 +55,6 @@ module _ (generation : ℕ → ℕ) (nodes target : ℕ) where
     pub number : asked_number body ≡ Some q
 
   module _ (moves : List Move) (from : ActorId) (server : ℕ) (q : ReqNo) where
-    all_moves : moves ++ [] ≡ moves
-    all_moves = append-nil moves
-
     append_asked : (b : AppendBody) → Contains (system moves).post (packet from (Server server) (bodies.Append b)) → meant_number (bodies.Append b) ≡ Some q → WasAsked (system moves) server q
     append_asked (Appended v e offset) c is =
         let a = (content_answered nodes target moves []).appended from (Server server) v e offset c in

@@ -18,15 +18,14 @@ use Rattle.model_histories.specs.ServedTables.{AreSeenAs}
 use Rattle.model_histories.specs.ServerRun.{ServerEvent, run_of}
 use Rattle.laws_tables.specs.Families.{IsChild, generation_of}
 use Rattle.laws_tables.proofs.Others.{with_others}
-use Rattle.laws_map.specs.GivenPairs.{AsksToComplete}
 use Rattle.laws_map.specs.Stages.{stage_of}
 use Rattle.laws_server_runs.specs.ChildInvariant.{HasPair, IsCompleting, ChildAt, AreBornSo}
 use Rattle.laws_server_runs.proofs.ChildTheorem.{AllInOrder}
 use Rattle.laws_server_runs.proofs.SplitsReplay.{IsToldOf, AreShared, AllAreBorn, splits_replay}
 use Rattle.laws_clusters.specs.ServerEvents.{server_events_after}
-use Rattle.laws_clusters.proofs.EndedSplits.{WasCompleting, IsEnded, run_ends}
+use Rattle.laws_clusters.proofs.EndedSplits.{IsEnded, run_ends}
 use Rattle.laws_clusters.proofs.FirstNumber.{run_unborn}
-use Rattle.laws_clusters.proofs.FirstUnborn.{run_first_unborn}
+use Rattle.laws_clusters.proofs.Births.{run_first_unborn}
 use Rattle.laws_clusters.proofs.RunOrigins.{run_origins}
 use Rattle.laws_clusters.proofs.ServerNotes.{server_notes}
 use Rattle.laws_clusters.proofs.ShownNotes.{notes_of}
@@ -77,10 +76,6 @@ module _ (nodes servers target batch : ℕ) (events : List Event) (are : AreUnme
   -- shown, and its generation is the last of the range and below each of the two.
   pub run_ended : (p low high : ℕ) (key : List ℕ) → Contains h (notes.Split p low high key) → IsEnded batch servers c coming p low high key
   run_ended p low high key shown = (run_ends nodes servers target batch events are).shown p low high key shown
-
-  -- and who asks to complete one under a generation is a server that waited for that
-  pub run_completing : (range generation : ℕ) → AsksToComplete c.stream_layer.post range generation → WasCompleting batch servers coming range generation
-  run_completing range generation asked = ((run_ends nodes servers target batch events are).asked range generation asked).was
 
   module _ (texts : ℕ → Bytes) where
     -- a split made a range of another, and waited for its end after some of what came

@@ -1,10 +1,9 @@
 -- Nothing is told of a range until a server may hold it, whatever comes.
-use Rattle.std.proofs.Common.{◌≡◌, ℕ, ◌==◌, false, List, [], ◌∷◌, ◌++◌, Some, refl, sym, ap, ◌∙◌, subst, if◌then◌else◌}
+use Rattle.std.proofs.Common.{◌≡◌, ℕ, false, List, [], ◌∷◌, ◌++◌, Some, refl, sym, ap, ◌∙◌, subst, if◌then◌else◌}
 use Rattle.wire.specs.declared.note.Note.{Note}
-use Rattle.model_streams.specs.declared.event.Event.{Event}
 use Rattle.model_partition.specs.declared.table_note.TableNote.{TableNote}
 use Rattle.model_partition.specs.declared.table_note.TableNote.TheVariants as tables
-use Rattle.model_partition.specs.Cluster.{Cluster, IsUnmerged, cluster_after}
+use Rattle.model_partition.specs.Cluster.{Cluster}
 use Rattle.model_partition.specs.Past.{Bytes}
 use Rattle.model_partition.specs.Servers.{ServerCell}
 use Rattle.model_histories.specs.Log.{is_of, only}
@@ -13,7 +12,7 @@ use Rattle.model_histories.specs.ServerRun.{ServerRun, ServerEvent, Builds, run_
 use Rattle.model_histories.specs.StreamActions.{PlacedBytes}
 use Rattle.model_streams.specs.Maps.{entry_at}
 use Rattle.laws_tables.proofs.Observed.{only-append}
-use Rattle.laws_map.proofs.SplitFacts.{KnowsSplits, MayHold, event_knows, event_may, held_assigned}
+use Rattle.laws_map.proofs.SplitFacts.{KnowsSplits, MayHold, event_may, held_assigned}
 use Rattle.laws_server_runs.specs.Places.{NotesWithin}
 use Rattle.laws_server_runs.specs.Turns.{outcome_of}
 use Rattle.laws_server_runs.proofs.Actions.{other_test}
@@ -22,8 +21,7 @@ use Rattle.laws_server_runs.proofs.LaidRuns.{all_laid, event_notes}
 use Rattle.laws_server_runs.proofs.NotedRanges.{AreNoted, Nothing, OfOne, run_noted}
 use Rattle.laws_server_runs.proofs.RunSteps.{IsAny, IsAnyPair, any_assigned, any_numbered, event_step}
 use Rattle.laws_server_runs.proofs.Unmerged.{unmerged}
-use Rattle.laws_clusters.specs.ServerEvents.{server_events}
-use Rattle.laws_clusters.proofs.BornSo.{IsUntold, StaysUntold}
+use Rattle.laws_clusters.proofs.BornSo.{StaysUntold}
 use Rattle.laws_clusters.proofs.BuiltInRuns.{EventKind, Quiet, OfServers, OfList, event_kind}
 
 -- ---- observations of one range

@@ -1,5 +1,5 @@
 -- A packet that comes to a server does nothing with the streams of a range that nobody may hold and whose first stream is not there.
-use Rattle.std.proofs.Common.{◌≡◌, ◌⊎◌, ℕ, zero, suc, ◌≤◌, Bool, true, false, ◌&&◌, ◌==◌, List, [], ◌∷◌, ◌++◌, Option, Some, None, Contains, refl, sym, ap, ◌∙◌, subst, inl, inr, arith, if◌then◌else◌}
+use Rattle.std.proofs.Common.{◌≡◌, ℕ, true, ◌==◌, List, [], ◌∷◌, Option, Some, None, Contains, refl, sym, ap, ◌∙◌, subst, inl, inr, arith}
 use Rattle.std.proofs.lemmas.Bool.{and_parts, eqb-true}
 use Rattle.wire.specs.declared.actor.ActorId.{ActorId}
 use Rattle.wire.specs.declared.actor.ActorId.TheVariants.{Node, Manager, Map, Server, User}
@@ -10,7 +10,6 @@ use Rattle.wire.specs.declared.body.StreamBody.{StreamBody}
 use Rattle.wire.specs.declared.body.StreamBody.TheVariants as streams
 use Rattle.wire.specs.declared.body.Body.{Body}
 use Rattle.wire.specs.declared.body.Body.TheVariants as bodies
-use Rattle.wire.specs.declared.body.MapBody.{MapBody}
 use Rattle.wire.specs.declared.body.MapBody.TheVariants as maps
 use Rattle.wire.specs.declared.body.TableBody.{TableBody}
 use Rattle.wire.specs.declared.body.TableBody.TheVariants as tables

@@ -4,7 +4,6 @@ pub mod AnswersAreRight
 pub mod UntouchedReads
 pub mod SoleRegion
 pub mod CheckpointRecords
-pub mod SplitRecords
 pub mod LoadBegins
 pub mod StreamAnswers
 pub mod MetadataAnswers
@@ -18,5 +17,4 @@ pub mod MoreKnown
 pub mod MachineSteps
 pub mod OneScript
 pub mod ToldIsShown
-pub mod SplitReads
 pub mod SplitGroups

@@ -1,13 +1,12 @@
 -- What a split appends to metadata leaves one region of the log: the record that its range is split, and the keys of the two ranges.
-use Rattle.std.proofs.Common.{◌≡◌, ℕ, ◌<◌, List, ◌++◌, length, Some, None, nat_le, ◌==◌, sym, ap, ◌∙◌, subst, arith, if◌then◌else◌}
-use Rattle.blocks.specs.Format.{◌>>=◌, number_at, pair_at, whole}
+use Rattle.std.proofs.Common.{◌≡◌, ℕ, List, ◌++◌, length, Some, ◌==◌, subst, arith}
+use Rattle.blocks.specs.Format.{number_at, pair_at, whole}
 use Rattle.blocks.specs.Record.{number}
-use Rattle.blocks.proofs.Formats.{bind_some, if_some, some_is, number1}
+use Rattle.blocks.proofs.Formats.{bind_some, if_some}
 use Rattle.metadata.specs.declared.record.MetaItem.{MetaItem}
 use Rattle.metadata.specs.declared.record.MetaItem.TheVariants.{Ranges, SplitStatus}
-use Rattle.metadata.specs.declared.record.MetaRecord.{MetaRecord}
 use Rattle.metadata.specs.Record.{keys, text}
-use Rattle.metadata.specs.Reading.{text_at, keys_at, next_at, ranges_at, status_at, item_at, record_at}
+use Rattle.metadata.specs.Reading.{text_at, keys_at, ranges_at, status_at, item_at}
 use Rattle.model_partition.specs.declared.split_job.Side.{Side}
 use Rattle.model_partition.specs.declared.split_job.SplitJob.{SplitJob}
 use Rattle.model_partition.specs.Range.{RangeState}
@@ -15,26 +14,7 @@ use Rattle.model_partition.specs.Splits.{side_keys}
 use Rattle.model_histories.specs.StreamActions.{split_group}
 use Rattle.laws_ranges.specs.SplitSides.{keys_group}
 use Rattle.laws_log_reads.specs.Reads.{LeavesOneRegion, SaysOneRegion}
-use Rattle.laws_log_reads.proofs.CheckpointRecords.{behind_number}
-
--- a number, a kind whose items are such, and fields
-module _ (n kind : ℕ) (less : kind < 256) (fields : List ℕ) (are : (item : MetaItem) → item_at kind fields ≡ Some item → LeavesOneRegion item) where
-  abbrev bytes : List ℕ
-  bytes = number 8 n ++ (number 1 kind ++ fields)
-
-  record_read : (r : MetaRecord) → record_at bytes ≡ Some r → LeavesOneRegion r.item
-  unfolding record_at next_at
-  record_read r e =
-      let head = bind_some (next_at bytes) (λ z. number_at 1 z.1 >>= λ k. item_at k.0 k.1 >>= λ item. Some (record { number = z.0; item = item })) r e in
-      let whole_head = bind_some (number_at 8 bytes) (λ z. if nat_le 1 z.0 then Some z else None) head.0 head.1 in
-      let same = if_some (nat_le 1 whole_head.0.0) whole_head.0 head.0 whole_head.2 in
-      let rest : head.0.1 ≡ number 1 kind ++ fields = ap (λ (p : ℕ × List ℕ). p.1) (sym same.1) ∙ behind_number n (number 1 kind ++ fields) whole_head.0 whole_head.1 in
-      let k = bind_some (number_at 1 head.0.1) (λ z. item_at z.0 z.1 >>= λ item. Some (record { number = head.0.0; item = item })) r head.2 in
-      let kind_is : k.0 ≡ (kind, fields) = some_is k.0 (kind, fields) (sym k.1 ∙ ap (λ bs. number_at 1 bs) rest ∙ number1.again kind fields (omega (arith, less))) in
-      let item = bind_some (item_at k.0.0 k.0.1) (λ z. Some (record { number = head.0.0; item = z })) r k.2 in
-      let read : item_at kind fields ≡ Some item.0 = subst (λ (p : ℕ × List ℕ). item_at p.0 p.1 ≡ Some item.0) kind_is item.1 in
-      let made : MetaRecord = record { number = head.0.0; item = item.0 } in
-      subst (λ (z : MetaRecord). LeavesOneRegion z.item) (some_is made r item.2) (are item.0 read)
+use Rattle.laws_log_reads.proofs.CheckpointRecords.{record_read}
 
 -- that a range is split
 status_read : (fields : List ℕ) (item : MetaItem) → item_at 4 fields ≡ Some item → LeavesOneRegion item
@@ -52,9 +32,11 @@ ranges_read fields item e =
     let same = if_some (length x.0.1 == 0) (Ranges x.0.0) item x.2 in
     subst (λ y. LeavesOneRegion y) same.1 tt
 
+-- the record that a range is split
 pub split_says : (job : SplitJob) → SaysOneRegion (split_group job)
 split_says job z e = record_read job.number 4 (omega arith) (number 8 job.low ++ (number 8 job.high ++ text job.key)) (λ item is. status_read (number 8 job.low ++ (number 8 job.high ++ text job.key)) item is) z e
 
+-- the record of the keys of one of the two
 pub keys_say : (r : RangeState) (job : SplitJob) (side : Side) → SaysOneRegion (keys_group r job side)
 keys_say r job side z e =
     record_read r.said.next 1 (omega arith) (keys (side_keys r.said.keys job.key side)) (λ item is. ranges_read (keys (side_keys r.said.keys job.key side)) item is) z e

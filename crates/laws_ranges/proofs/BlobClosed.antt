@@ -281,9 +281,6 @@ module _ (d : ServerContext) where
   pub give_up_closed : (s : RangeState) → Closed s → StayClosed (give_up_all d s)
   give_up_closed s k = k
 
-  pub renew_closed : (s : RangeState) → Closed s → (until count : ℕ) → StayClosed (record { after = Some (record s { until = until }); count = count; packets = []; notes = [] })
-  renew_closed s k until count = k
-
   -- a range that is taken knows nothing of it
   pub assigned_closed : (range generation until : ℕ) → AreClosed (new_range d range generation until).blob_data.extents
   assigned_closed range generation until x here = absurd (omega (arith, here.1))

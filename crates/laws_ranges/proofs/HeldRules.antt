@@ -1,6 +1,6 @@
 -- The rules of a range that is being split, whatever its split waits for: turns of its incarnation, which leave its split where the machines
 -- have it.
-use Rattle.std.proofs.Common.{◌≡◌, ℕ, ◌≤◌, List, [], ◌++◌, Option, Some, None, is_some, refl, sym, subst}
+use Rattle.std.proofs.Common.{◌≡◌, ℕ, List, [], ◌++◌, Option, Some, None, is_some, refl, sym, subst}
 use Rattle.wire.specs.declared.actor.ActorId.{ActorId}
 use Rattle.wire.specs.declared.actor.ReqNo.{ReqNo}
 use Rattle.wire.specs.declared.body.Body.{Body}
@@ -26,14 +26,13 @@ use Rattle.laws_stream_machine.specs.Refinement.{Means}
 use Rattle.laws_ranges.specs.Serves.{Side, IsCounted, IsPastRows, RowsTold, metadata_of, log_of, IsServing, Follows, FollowsIf, BothListed, IsSentBy}
 use Rattle.laws_ranges.specs.SplitJobs.{PausedIs, PhaseStands, FollowsSplit, FollowsBothIf, SplitSees}
 use Rattle.laws_ranges.proofs.AnswersServed.{answer_served}
-use Rattle.laws_ranges.proofs.BothStreams.{follows_same}
 use Rattle.laws_ranges.proofs.LogRules.{none_formed}
 use Rattle.laws_ranges.proofs.PausedAnswers.{reads_see, answer_paused}
 use Rattle.laws_ranges.proofs.PausedGiveUp.{give_up_paused}
-use Rattle.laws_ranges.proofs.PausedRules.{IsPausedAt, refused_paused, never_taken, get_paused, renew_paused}
+use Rattle.laws_ranges.proofs.PausedRules.{IsPausedAt, refused_paused, never_taken, get_paused}
 use Rattle.laws_ranges.proofs.SeenRules.{get_sees, transact_sees, give_up_sees}
 use Rattle.laws_ranges.proofs.ServedStays.{StaysServed, transact_stays, get_stays, give_up_stays, answer_stays}
-use Rattle.laws_ranges.proofs.SplitSteps.{still_plain, rule_split}
+use Rattle.laws_ranges.proofs.SplitSteps.{rule_split}
 use Rattle.laws_ranges.proofs.WholeRanges.{is_served}
 
 -- no record of the split is out yet
@@ -116,14 +115,6 @@ module _ (generation : ℕ → ℕ) (range : ℕ) (w : StreamSystem) (i : ℕ) (
       (λ b. rule_split generation range w i both m l d by v (get_rule d r from q key) (Some job) [] (get_sees generation range w i both m l d by v r b.follows from q key)
       (b.left (get_rule d r from q key).after (get_stays r f.stage d generation range w i l from q key)))
       (λ at p. get_paused generation range w i m l both d by v r job f at p from q key)
-
-  -- its lease is renewed
-  pub renew_held : (until count : ℕ) → d.count ≤ count → HeldSees (record { after = Some (record r { until = until }); count = count; packets = []; notes = [] }) []
-  renew_held until count more =
-      by_phase
-      (λ b. still_plain generation range w i both m l d by v (held_step (record { after = Some (record r { until = until }); count = count; packets = []; notes = [] }))
-      (b.left (Some (record r { until = until })) (f.stage, λ none. none) m l (follows_same generation range w i m l r until r.gets r.held b.follows)) more tt)
-      (λ at p. renew_paused generation range w i m l both d by v r job f at p until count more)
 
   pub give_up_held : HeldSees (give_up_all d r) []
   give_up_held =

@@ -49,9 +49,6 @@ pub mod UnservedRules
 pub mod TrimAnswers
 pub mod AnswersServed
 pub mod SeenRules
-pub mod RowNumbers
-pub mod LoadRows
-pub mod RowRules
 pub mod SplitSteps
 pub mod SplitBegins
 pub mod SplitRecords
@@ -66,9 +63,6 @@ pub mod ServedStays
 pub mod PausedAnswers
 pub mod HeldRules
 pub mod MoreSplits
-pub mod SidesStay
-pub mod SplitNumbers
 pub mod BlobClosed
 pub mod SplitClosed
-pub mod SidePackets
-pub mod HeldRanges
+pub mod SplitsPaused

@@ -98,9 +98,6 @@ module _ (generation : ℕ → ℕ) (i : ℕ) where
   reads_left kind v (Stands k extent at group ∷ earlier) q = absurd q.0
   reads_left kind v (Shows start log_end metadata_end ∷ earlier) q = absurd q.0
 
-  pub reads_leave : (kind : StreamKind) (v : RangeView) (actions : List StreamAction) → AreReads actions → (view_after_all (generation i) v actions).story kind ≡ v.story kind
-  reads_leave kind v actions q = (reads_left kind v actions q).story
-
   -- who sees a story sees it while it stays
   pub still_seen : (kind : StreamKind) (v u : RangeView) (x : Stand) → Leaves kind v u → SeesStory generation i kind v x → SeesStory generation i kind u x
   still_seen kind v u x b s = record { story = b.story ∙ s.story; append = subst (λ z. BeganAt z x.phase) (sym b.append) s.append }

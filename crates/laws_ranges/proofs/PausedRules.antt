@@ -184,12 +184,6 @@ module _ (generation : ℕ → ℕ) (range : ℕ) (w : StreamSystem) (i : ℕ) (
         let z : true ≡ false = ap takes_no_transaction (sym p.pause) ∙ taken in
         cc
 
-    -- its lease
-    pub renew_paused : (until count : ℕ) → d.count ≤ count → Sees (record { after = Some (record r { until = until }); count = count; packets = []; notes = [] })
-    renew_paused until count more =
-        kept_still (record { after = Some (record r { until = until }); count = count; packets = []; notes = [] })
-        (record { load = refl; stage = refl; pause = refl; control = refl; out = refl; metadata = (r.metadata.pick, refl); log = (r.log.pick, refl); said = refl; blob = refl; rows = p.rows }) more tt
-
     -- ---- what is read besides
 
     pub page_paused : (body : Body) → Sees (page_reply d r body)

@@ -1,9 +1,8 @@
 -- What each rule of a range does with its streams is what servers see of it, wherever the range stands.
-use Rattle.std.proofs.Common.{◌≡◌, ⊎_elim, ℕ, Bool, List, [], false, Option, Some, None, refl, subst, arith}
+use Rattle.std.proofs.Common.{◌≡◌, ⊎_elim, ℕ, Bool, List, [], false, Option, Some, None, refl, subst}
 use Rattle.wire.specs.declared.actor.ActorId.{ActorId}
 use Rattle.wire.specs.declared.actor.ReqNo.{ReqNo}
 use Rattle.wire.specs.declared.body.Body.{Body}
-use Rattle.wire.specs.declared.packet.Packet.{Packet}
 use Rattle.wire.specs.declared.refusal.Refusal.{Refusal}
 use Rattle.wire.specs.declared.transaction.Change.{Change}
 use Rattle.model_streams.specs.StreamSystem.{StreamSystem}
@@ -21,7 +20,7 @@ use Rattle.laws_loads.specs.RangeView.{RangeView}
 use Rattle.laws_loads.specs.StaysLoading.{IsConfirmation}
 use Rattle.laws_loads.proofs.WaitingIsSound.{taken_served}
 use Rattle.laws_loads.proofs.WaitingStays.{answer_stays, give_up_stays}
-use Rattle.laws_ranges.specs.Serves.{Side, metadata_of, log_of, IsCounted, IsPastRows, RowsTold, BeginsRightly, IsConfirming, IsServing, Follows, FollowsIf, BothListed, IsSentBy, AreAsked}
+use Rattle.laws_ranges.specs.Serves.{Side, metadata_of, log_of, IsCounted, IsPastRows, RowsTold, BeginsRightly, IsConfirming, IsServing, Follows, BothListed, IsSentBy}
 use Rattle.laws_ranges.specs.Seen.{LoadIsRead, RuleSees}
 use Rattle.laws_ranges.proofs.SeenTurns.{quiet_sees}
 use Rattle.laws_ranges.proofs.LogRules.{none_formed}
@@ -33,7 +32,6 @@ use Rattle.laws_ranges.proofs.GiveUpLoading.{give_up_all_both}
 use Rattle.laws_ranges.proofs.GiveUpServed.{give_up_served}
 use Rattle.laws_ranges.proofs.AnswerRules.{answer_both}
 use Rattle.laws_ranges.proofs.AnswersServed.{answer_served}
-use Rattle.laws_ranges.proofs.BothStreams.{still_quietly}
 use Rattle.laws_ranges.proofs.KeptRows.{transact_keeps_rows}
 use Rattle.laws_ranges.proofs.WholeRanges.{is_served, served_both, served_rest, kept_sees}
 use Rattle.laws_ranges.proofs.CheckpointRules.{checkpoint_quietly}
@@ -46,13 +44,6 @@ module _ (generation : ℕ → ℕ) (range : ℕ) (w : StreamSystem) (i : ℕ) (
   assigned_sees until metadata_idle log_idle =
       quiet_sees generation range w i view m l d (taken generation range w i m l d by until) []
       (unserved_quietly generation range w i m l d (taken generation range w i m l d by until) (assigned_both generation range w i m l d by until metadata_idle log_idle) refl) tt
-
-  -- a step that turns neither stream
-  pub still_sees : (after : Option RangeState) (packets : List Packet) → FollowsIf generation range w i after m l → AreAsked generation range w i (log_of range) l.stand l.sent packets →
-      RuleSees generation i range w view m l d (record { after = after; count = d.count; packets = packets; notes = [] }) []
-  still_sees after packets follows asked =
-      quiet_sees generation range w i view m l d (record { after = after; count = d.count; packets = packets; notes = [] }) []
-      (still_quietly generation range w i both m l d by after d.count packets follows (omega arith) asked) tt
 
   module _ (r : RangeState) (f : Follows generation range w i m l r) where
     -- ---- a Get

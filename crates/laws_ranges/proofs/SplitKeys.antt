@@ -1,6 +1,6 @@
 -- The keys of the two ranges of a split are appended to their metadata, those of the lower range first, and then the map is told: turns of
 -- the incarnation of the range that is split, on the machines of the two.
-use Rattle.std.proofs.Common.{◌≡◌, ◌⊎◌, ⊎_elim, ℕ, suc, ◌+◌, Bool, true, false, not, List, [], ◌∷◌, ◌++◌, map, Option, Some, None, is_some, option_to_list, refl, sym, ap, ◌∙◌, subst, inl, inr, if◌then◌else◌}
+use Rattle.std.proofs.Common.{◌≡◌, ℕ, ◌+◌, Bool, true, false, not, List, [], ◌∷◌, ◌++◌, map, Option, Some, None, is_some, option_to_list, refl, sym, ap, ◌∙◌, subst, inl, if◌then◌else◌}
 use Rattle.block_types.specs.Limits.{group_size}
 use Rattle.wire.specs.declared.body.Body.{Body}
 use Rattle.wire.specs.declared.packet.Packet.{Packet}
@@ -14,7 +14,6 @@ use Rattle.client.specs.declared.job.Job.TheVariants as jobs
 use Rattle.client.specs.declared.job.News.{News}
 use Rattle.client.specs.declared.job.News.TheVariants as news
 use Rattle.client.specs.Client.{ClientState, Outcome, last_extent, append_at, reply_rule, give_up_job}
-use Rattle.model_streams.proofs.Tests.{both_elim}
 use Rattle.model_streams.specs.StreamSystem.{StreamSystem}
 use Rattle.model_partition.specs.declared.server_context.ServerContext.{ServerContext}
 use Rattle.model_partition.specs.declared.split_job.Side.{Side as SplitSide}
@@ -27,14 +26,14 @@ use Rattle.model_partition.specs.Range.{RangeState, request, refuses, picking, w
 use Rattle.model_partition.specs.Splits.{SplitStep, stays, goes, ends, with_phase, open_extent, open_last, side_range, side_metadata, may_say_keys, appends_keys, says_keys, completes, keys_told, keys_reply, keys_again}
 use Rattle.model_histories.specs.ServerTurns as turns
 use Rattle.model_histories.specs.StreamActions as actions
-use Rattle.model_histories.specs.StreamActions.{StreamAction, SideAction, Forms, Stands, last_position, keys_said}
+use Rattle.model_histories.specs.StreamActions.{SideAction, Forms, Stands, last_position, keys_said}
 use Rattle.laws_loads.specs.RangeView.{RangeView}
 use Rattle.laws_stream_machine.specs.Refinement.{Sent, purpose_of, Means}
 use Rattle.laws_ranges.specs.Serves.{Stand, Side, after_turns, AreTurns, sent_with, is_live, JobIs, IsTold, ServesBy, ServingIs, IsAskedIf, Goes, ServesAfter, IsCounted, Listed, metadata_of}
 use Rattle.laws_ranges.specs.Quiet.{AreQuiet, AppendsOnly, MadeBy, Quietly}
 use Rattle.laws_ranges.specs.Seen.{AreSeenOf}
-use Rattle.laws_ranges.specs.SplitJobs.{RestsIs, AreOthers, RecordedIs, FollowsSplit, FollowsBothIf, ServedIf}
-use Rattle.laws_ranges.specs.SplitSides.{keys_group, SideWaits, SideAppends, SidesStand, SidesStandIf, AskedOfSides, SidesGo}
+use Rattle.laws_ranges.specs.SplitJobs.{RestsIs, AreOthers, RecordedIs, FollowsSplit}
+use Rattle.laws_ranges.specs.SplitSides.{keys_group, SaysKeys, SideWaits, SideAppends, SidesStand, ArePlain, AreOwn, OfNone, OfLow, OfHigh, SidesGo}
 use Rattle.laws_ranges.proofs.AppendJob.{GoesBy, picked_serving, give_up_goes}
 use Rattle.laws_ranges.proofs.AppendReplies.{reply_goes}
 use Rattle.laws_ranges.proofs.OneStory.{quiet_seen_of, stands_seen_of}
@@ -60,53 +59,43 @@ own_group generation name w i x sent c (jobs.Checking e q) b = absurd b
 own_group generation name w i x sent c (jobs.Shutting e q) b = absurd b
 own_group generation name w i x sent c (jobs.Reading e places upto sealed place q) b = absurd b
 
-module _ (generation : ℕ → ℕ) (range : ℕ) (w : StreamSystem) (i : ℕ) (m l a b : Side) (u v : RangeView) (d : ServerContext) (r : RangeState) (job : SplitJob) (f : FollowsSplit generation range w i m l r job)
+module _ (generation : ℕ → ℕ) (range : ℕ) (w : StreamSystem) (i : ℕ) (m l a b : Side) (d : ServerContext) (r : RangeState) (job : SplitJob) (f : FollowsSplit generation range w i m l r job)
     (low_listed : Listed w (metadata_of job.low)) (high_listed : Listed w (metadata_of job.high)) (low_fresh : purpose_of a.sent (request d) ≡ None) (high_fresh : purpose_of b.sent (request d) ≡ None) where
   abbrev Does : SplitStep → List SideAction → Type 0
-  Does t sides = SidesGo generation w i range m l a b u v d job t sides
+  Does t sides = SidesGo generation w i range m l a b d r job t sides
 
   -- what users are told is asked of no stream
-  refused_asked : (n k : Side) (ts : List WaitingTransaction) (gs : List WaitingGet) →
-      AskedOfSides generation w i job n k (map (λ t. refuses d t.from t.request refusals.NotOwner) ts ++ map (λ g. refuses d g.from g.request refusals.NotOwner) gs)
-  refused_asked n k [] [] = tt
-  refused_asked n k [] (g ∷ gs) = (inl (λ u n s z. tt), refused_asked n k [] gs)
-  refused_asked n k (t ∷ ts) gs = (inl (λ u n s z. tt), refused_asked n k ts gs)
+  refused_plain : (ts : List WaitingTransaction) (gs : List WaitingGet) →
+      ArePlain generation w i job.range (map (λ t. refuses d t.from t.request refusals.NotOwner) ts ++ map (λ g. refuses d g.from g.request refusals.NotOwner) gs)
+  refused_plain [] [] = tt
+  refused_plain [] (g ∷ gs) = ((λ u n s z. tt), refused_plain [] gs)
+  refused_plain (t ∷ ts) gs = ((λ u n s z. tt), refused_plain ts gs)
 
-  low_asked : (n k : Side) (p : Option Packet) → IsAskedIf generation (metadata_of job.low) w i n.stand n.sent p → AskedOfSides generation w i job n k (option_to_list p)
-  low_asked n k None e = tt
-  low_asked n k (Some p) e = (inr (inl e), tt)
+  own_if : (name : StreamName) (x : Side) (p : Option Packet) → IsAskedIf generation name w i x.stand x.sent p → AreOwn generation w i name x (option_to_list p)
+  own_if name x None e = tt
+  own_if name x (Some p) e = (e, tt)
 
-  high_asked : (n k : Side) (p : Option Packet) → IsAskedIf generation (metadata_of job.high) w i k.stand k.sent p → AskedOfSides generation w i job n k (option_to_list p)
-  high_asked n k None e = tt
-  high_asked n k (Some p) e = (inr (inr e), tt)
+  -- ---- the range goes
 
-  -- ---- steps that turn neither
-
-  still_sides : (t : SplitStep) → ServedIf t.range → (t.count ≡ suc d.count) ⊎ (t.count ≡ d.count) → FollowsBothIf generation range w i t.job t.range m l → SidesStandIf generation w i a b t.range t.job → AskedOfSides generation w i job a b t.packets → Does t []
-  still_sides t served count held stand asked = record {
+  ends_sides : Does (ends d r) []
+  ends_sides = record {
     low_turns = [];
     high_turns = [];
     low_allowed = tt;
     high_allowed = tt;
     low_purpose = None;
     high_purpose = None;
-    counts = ⊎_elim {C = (t.count ≡ suc d.count) ⊎ ((t.count ≡ d.count) × (None ≡ None) × (None ≡ None))} (λ e. inl e) (λ e. inr (e, refl, refl)) count;
+    counts = inl refl;
     low_actions = [];
     high_actions = [];
     are = refl;
-    low_seen = λ s. s;
-    high_seen = λ s. s;
-    held = held;
-    served = served;
-    then = stand;
-    asked = asked;
+    low_seen = λ u s. s;
+    high_seen = λ u s. s;
+    held = tt;
+    served = tt;
+    then = tt;
+    asked = OfNone (refused_plain (waiting_out r.out ++ r.queue) r.gets) tt refl refl;
   }
-
-  stays_sides : SidesStand generation w i a b r job job.phase → Does (stays d r job) []
-  stays_sides now = still_sides (stays d r job) f.stage (inr refl) f now tt
-
-  ends_sides : Does (ends d r) []
-  ends_sides = still_sides (ends d r) tt (inl refl) tt tt (refused_asked a b (waiting_out r.out ++ r.queue) r.gets)
 
   -- ---- keys are appended
 
@@ -139,13 +128,16 @@ module _ (generation : ℕ → ℕ) (range : ℕ) (w : StreamSystem) (i : ℕ) (
   said_held : (side : SplitSide) (c : ClientState) → AreOthers range job (phases.Build (request d)) → RecordedIs generation range w i m l r → open_last r.metadata.extents ≡ None → may_say_keys r job ≡ true → FollowsSplit generation range w i m l r (with_phase job (phases.Keys side c))
   said_held side c others recorded closed may = record { range_is = f.range_is; under = f.under; stage = f.stage; others = others; stands = (recorded, closed, may) }
 
+  -- and so does the range
+  says_side : (side : SplitSide) (c : ClientState) (packets : List Packet) → SaysKeys r job (goes d r (with_phase job (phases.Keys side c)) packets)
+  says_side side c packets = record { side = side; client = c; range_is = refl; job_is = refl }
+
   module _ (others : AreOthers range job (phases.Build (request d))) (recorded : RecordedIs generation range w i m l r) (closed : open_last r.metadata.extents ≡ None) where
     -- those of the lower range
-    pub says_low : SideWaits generation w i a r job Low → SideWaits generation w i b r job High → SidesStand generation w i a b r job job.phase → Does (says_keys d r job Low) (keys_said r job Low)
-    says_low low high now =
-        both_elim (λ t sides. Does t sides) (may_say_keys r job) _ _ _ _
-        (λ may.
-        (let g : FormsSealed generation (metadata_of job.low) w i low_listed a.sent (request d) low_fresh kinds.Metadata a.stand (client Low a low_listed low_fresh) (formed Low a low_listed low_fresh) = forms_keys Low a low_listed low_fresh low closed in
+    pub says_low : may_say_keys r job ≡ true → SideWaits generation w i a r job Low → SideWaits generation w i b r job High →
+        Does (appends_keys d r job Low) (record { range = job.low; action = Forms kinds.Metadata (keys_group r job Low) } ∷ [])
+    says_low may low high =
+        let g : FormsSealed generation (metadata_of job.low) w i low_listed a.sent (request d) low_fresh kinds.Metadata a.stand (client Low a low_listed low_fresh) (formed Low a low_listed low_fresh) = forms_keys Low a low_listed low_fresh low closed in
         let n : Side = record { stand = after_turns generation i a.stand g.goes.list; sent = sent_with (request d) g.goes.purpose a.sent } in
         record {
           low_turns = g.goes.list;
@@ -158,14 +150,13 @@ module _ (generation : ℕ → ℕ) (range : ℕ) (w : StreamSystem) (i : ℕ) (
           low_actions = Forms kinds.Metadata (keys_group r job Low) ∷ [];
           high_actions = [];
           are = refl;
-          low_seen = g.seen u;
-          high_seen = λ s. s;
+          low_seen = λ u. g.seen u;
+          high_seen = λ u s. s;
           held = said_held Low (formed Low a low_listed low_fresh).after others recorded closed may;
           served = f.stage;
           then = (appends_side Low a low_listed low_fresh n.stand n.sent g.goes.then, high);
-          asked = low_asked n b (formed Low a low_listed low_fresh).packet g.goes.asked;
-        }))
-        (λ may. stays_sides now)
+          asked = OfLow (own_if (metadata_of job.low) n (formed Low a low_listed low_fresh).packet g.goes.asked) (says_side Low (formed Low a low_listed low_fresh).after (option_to_list (formed Low a low_listed low_fresh).packet)) refl;
+        }
 
     -- ---- an answer to the client of one of the two
 
@@ -208,12 +199,12 @@ module _ (generation : ℕ → ℕ) (range : ℕ) (w : StreamSystem) (i : ℕ) (
             low_actions = [];
             high_actions = [];
             are = refl;
-            low_seen = quiet_seen_of generation i kinds.Metadata u a.stand g.list [] quiet tt;
-            high_seen = λ s. s;
+            low_seen = λ u. quiet_seen_of generation i kinds.Metadata u a.stand g.list [] quiet tt;
+            high_seen = λ u s. s;
             held = said_held Low c others recorded closed may;
             served = f.stage;
             then = (appends, high);
-            asked = low_asked n b p g.asked;
+            asked = OfLow (own_if (metadata_of job.low) n p g.asked) (says_side Low c (option_to_list p)) refl;
           }
 
       high_goes : (c : ClientState) (p : Option Packet) (g : Goes generation (metadata_of job.high) w i b.stand b.sent (request d) (λ y more. ServingIs generation (metadata_of job.high) w i y more c) p) → AreQuiet g.list →
@@ -232,22 +223,21 @@ module _ (generation : ℕ → ℕ) (range : ℕ) (w : StreamSystem) (i : ℕ) (
             low_actions = [];
             high_actions = [];
             are = refl;
-            low_seen = λ s. s;
-            high_seen = quiet_seen_of generation i kinds.Metadata v b.stand g.list [] quiet tt;
+            low_seen = λ u s. s;
+            high_seen = λ u. quiet_seen_of generation i kinds.Metadata u b.stand g.list [] quiet tt;
             held = said_held High c others recorded closed may;
             served = f.stage;
             then = appends;
-            asked = high_asked a k p g.asked;
+            asked = OfHigh (own_if (metadata_of job.high) k p g.asked) (says_side High c (option_to_list p)) refl;
           }
 
       -- it stands: those of the higher range are appended
-      low_stands : (c : ClientState) (e offset : ℕ) (low_list : List (turns.Turn Group)) → AreTurns generation i a.stand low_list → AreSeenOf generation i kinds.Metadata u a.stand low_list (Stands kinds.Metadata e (last_position c offset) c.group ∷ []) →
+      low_stands : (c : ClientState) (e offset : ℕ) (low_list : List (turns.Turn Group)) → AreTurns generation i a.stand low_list → ((u : RangeView) → AreSeenOf generation i kinds.Metadata u a.stand low_list (Stands kinds.Metadata e (last_position c offset) c.group ∷ [])) →
           SideWaits generation w i b r job High → Does (says_keys d r job High) (keys_said r job High ++ record { range = job.low; action = Stands kinds.Metadata e (last_position c offset) c.group } ∷ [])
       low_stands c e offset low_list allowed seen high =
           subst (λ (t : Bool). Does (if t then appends_keys d r job High else stays d r job) ((if t then record { range = job.high; action = Forms kinds.Metadata (keys_group r job High) } ∷ [] else []) ++ record { range = job.low; action = Stands kinds.Metadata e (last_position c offset) c.group } ∷ [])) (sym may)
           (let g : FormsSealed generation (metadata_of job.high) w i high_listed b.sent (request d) high_fresh kinds.Metadata b.stand (client High b high_listed high_fresh) (formed High b high_listed high_fresh) = forms_keys High b high_listed high_fresh high closed in
           let k : Side = record { stand = after_turns generation i b.stand g.goes.list; sent = sent_with (request d) g.goes.purpose b.sent } in
-          let n : Side = record { stand = after_turns generation i a.stand low_list; sent = a.sent } in
           record {
             low_turns = low_list;
             high_turns = g.goes.list;
@@ -260,15 +250,15 @@ module _ (generation : ℕ → ℕ) (range : ℕ) (w : StreamSystem) (i : ℕ) (
             high_actions = Forms kinds.Metadata (keys_group r job High) ∷ [];
             are = refl;
             low_seen = seen;
-            high_seen = g.seen v;
+            high_seen = λ u. g.seen u;
             held = said_held High (formed High b high_listed high_fresh).after others recorded closed may;
             served = f.stage;
             then = appends_side High b high_listed high_fresh k.stand k.sent g.goes.then;
-            asked = high_asked n k (formed High b high_listed high_fresh).packet g.goes.asked;
+            asked = OfHigh (own_if (metadata_of job.high) k (formed High b high_listed high_fresh).packet g.goes.asked) (says_side High (formed High b high_listed high_fresh).after (option_to_list (formed High b high_listed high_fresh).packet)) refl;
           })
 
       -- it stands: the map is told
-      high_stands : (c : ClientState) (e offset : ℕ) (high_list : List (turns.Turn Group)) → AreTurns generation i b.stand high_list → AreSeenOf generation i kinds.Metadata v b.stand high_list (Stands kinds.Metadata e (last_position c offset) c.group ∷ []) →
+      high_stands : (c : ClientState) (e offset : ℕ) (high_list : List (turns.Turn Group)) → AreTurns generation i b.stand high_list → ((u : RangeView) → AreSeenOf generation i kinds.Metadata u b.stand high_list (Stands kinds.Metadata e (last_position c offset) c.group ∷ [])) →
           Does (completes d r job) (record { range = job.high; action = Stands kinds.Metadata e (last_position c offset) c.group } ∷ [])
       high_stands c e offset high_list allowed seen = record {
         low_turns = [];
@@ -281,12 +271,12 @@ module _ (generation : ℕ → ℕ) (range : ℕ) (w : StreamSystem) (i : ℕ) (
         low_actions = [];
         high_actions = Stands kinds.Metadata e (last_position c offset) c.group ∷ [];
         are = refl;
-        low_seen = λ s. s;
+        low_seen = λ u s. s;
         high_seen = seen;
         held = record { range_is = f.range_is; under = f.under; stage = f.stage; others = others; stands = (recorded, closed) };
         served = f.stage;
         then = tt;
-        asked = (inl (λ y n s z. tt), tt);
+        asked = OfNone ((λ y n s z. tt), tt) tt refl refl;
       }
 
       low_news : (c : ClientState) (s : SideAppends generation w i a r job Low c) (counted : IsCounted i a.stand) (means : Means generation (metadata_of job.low) w a.stand.state a.sent body) → SideWaits generation w i b r job High →
@@ -294,7 +284,7 @@ module _ (generation : ℕ → ℕ) (range : ℕ) (w : StreamSystem) (i : ℕ) (
           JobAfter (λ z. z ≡ keys_group r job Low) (Unit {0}) told o.after → Does (keys_told d r job Low o told) (actions.keys_told r job Low c told)
       low_news c s counted means high None o g grouped = low_goes o.after o.packet g.0 g.1 grouped high
       low_news c s counted means high (Some news.Fenced) o g grouped = ends_sides
-      low_news c s counted means high (Some (news.Appended e offset)) o g grouped = low_stands c e offset g.0.list g.0.allowed (keys_stand_seen Low a low_listed low_fresh c s counted means u e offset g.0.list g.1) high
+      low_news c s counted means high (Some (news.Appended e offset)) o g grouped = low_stands c e offset g.0.list g.0.allowed (λ u. keys_stand_seen Low a low_listed low_fresh c s counted means u e offset g.0.list g.1) high
       low_news c s counted means high (Some (news.Checked e n)) o g grouped = low_goes o.after o.packet g.0 g.1 grouped high
       low_news c s counted means high (Some (news.Sealed e n)) o g grouped = low_goes o.after o.packet g.0 g.1 grouped high
       low_news c s counted means high (Some (news.Content e n)) o g grouped = low_goes o.after o.packet g.0 g.1 grouped high
@@ -304,7 +294,7 @@ module _ (generation : ℕ → ℕ) (range : ℕ) (w : StreamSystem) (i : ℕ) (
           JobAfter (λ z. z ≡ keys_group r job High) (Unit {0}) told o.after → Does (keys_told d r job High o told) (actions.keys_told r job High c told)
       high_news c s counted means None o g grouped = high_goes o.after o.packet g.0 g.1 grouped
       high_news c s counted means (Some news.Fenced) o g grouped = ends_sides
-      high_news c s counted means (Some (news.Appended e offset)) o g grouped = high_stands c e offset g.0.list g.0.allowed (keys_stand_seen High b high_listed high_fresh c s counted means v e offset g.0.list g.1)
+      high_news c s counted means (Some (news.Appended e offset)) o g grouped = high_stands c e offset g.0.list g.0.allowed (λ u. keys_stand_seen High b high_listed high_fresh c s counted means u e offset g.0.list g.1)
       high_news c s counted means (Some (news.Checked e n)) o g grouped = high_goes o.after o.packet g.0 g.1 grouped
       high_news c s counted means (Some (news.Sealed e n)) o g grouped = high_goes o.after o.packet g.0 g.1 grouped
       high_news c s counted means (Some (news.Content e n)) o g grouped = high_goes o.after o.packet g.0 g.1 grouped

@@ -18,7 +18,6 @@ use Rattle.wire.specs.declared.refusal.Refusal.{Refusal}
 use Rattle.wire.specs.declared.refusal.Refusal.TheVariants as refusals
 use Rattle.wire.specs.declared.streams.StreamKind.{StreamKind}
 use Rattle.wire.specs.declared.streams.StreamKind.TheVariants as kinds
-use Rattle.metadata.specs.Fold.{taken}
 use Rattle.client.specs.declared.job.Job.{Job}
 use Rattle.client.specs.declared.job.Job.TheVariants as jobs
 use Rattle.client.specs.Client.{ClientState, is_idle, reply_rule}
@@ -35,7 +34,7 @@ use Rattle.model_partition.specs.declared.split_job.SplitPhase.TheVariants as ph
 use Rattle.model_partition.specs.declared.stage.Stage.TheVariants as stages
 use Rattle.model_partition.specs.Range.{RangeState, request, picking}
 use Rattle.model_partition.specs.Answering.{answered_number}
-use Rattle.model_partition.specs.Splits.{SplitStep, stays, ends, goes, open_last, extents_of, kinds_after, begin_packet, seal_packet, build_packet, complete_packet, seals_among, with_last_sealed, is_extent, seals_or_builds, first_open, may_checkpoint, has_record_numbers, begun, split_item, all_kinds, is_drained, may_record, last_sealed, says_keys, keys_reply, phase_awaits, refused, refused_by, map_told, seal_told, stream_told, told, split_reply_in, split_reply, has_number, has_stood, drains, follows_in, follows, seal_again, keys_again, gives_up_in, gives_up}
+use Rattle.model_partition.specs.Splits.{SplitStep, stays, ends, goes, open_last, extents_of, kinds_after, begin_packet, seal_packet, build_packet, complete_packet, seals_among, with_last_sealed, is_extent, seals_or_builds, first_open, may_checkpoint, has_record_numbers, begun, last_sealed, says_keys, keys_reply, phase_awaits, refused, refused_by, map_told, seal_told, stream_told, told, split_reply_in, split_reply, has_number, has_stood, drains, follows_in, follows, seal_again, keys_again, gives_up_in, gives_up}
 use Rattle.model_histories.specs.StreamActions.{StreamAction, SideAction, drain_actions, follow_actions_in, follow_actions, keys_said, keys_told, sides_in, split_sides}
 use Rattle.laws_loads.specs.RangeView.{RangeView}
 use Rattle.laws_stream_machine.specs.Refinement.{Seals, Means, SealMeans}
@@ -222,21 +221,6 @@ module _ (generation : ℕ → ℕ) (range : ℕ) (w : StreamSystem) (i : ℕ) (
 
   begun_leave : (low high : ℕ) → Unkeyed (begun d r job low high)
   begun_leave low high = if_elim Unkeyed (may_checkpoint r && has_record_numbers r) _ _ (λ t. record { served = begins_served d r f.stage false; keys = inr tt }) (λ t. unchanged)
-
-  drains_leave : Unkeyed (drains d r job)
-  drains_leave = if_elim Unkeyed (is_drained r && may_record r job) _ _ (λ t. record { served = f.stage; keys = inr tt }) (λ t. record { served = f.stage; keys = inr tt })
-
-  follow_leaves : (phase : SplitPhase) → Unkeyed (follows_in d r job phase)
-  follow_leaves phases.Checkpoint = if_elim Unkeyed (is_some r.control) _ _ (λ t. unchanged) (λ t. drains_leave)
-  follow_leaves phases.Queue = drains_leave
-  follow_leaves phases.Record =
-      if_elim Unkeyed (has_stood r) _ _
-      (λ t. (let said : RangeState = record r { said = taken r.said (split_item job) } in seals_leave said f.stage (first_open said all_kinds))) (λ t. unchanged)
-  follow_leaves phase = unchanged
-
-  -- what follows a step of the range appends no keys
-  pub follows_leave : LeavesKeys d r job (follows d r job)
-  follows_leave = if_elim Unkeyed (has_number d) _ _ (λ t. follow_leaves job.phase) (λ t. unchanged)
 
   -- what is so of each step and of what it does to the two ranges, if it is so of those that append keys
   module _ (P : SplitStep → List SideAction → Type 0) (from : (t : SplitStep) → Sees t [] → LeavesKeys d r job t → P t [])

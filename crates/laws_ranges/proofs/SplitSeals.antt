@@ -17,7 +17,7 @@ use Rattle.model_partition.specs.declared.server_context.ServerContext.{ServerCo
 use Rattle.model_partition.specs.declared.split_job.SplitJob.{SplitJob}
 use Rattle.model_partition.specs.declared.split_job.SplitPhase.TheVariants as phases
 use Rattle.model_partition.specs.Range.{RangeState, request}
-use Rattle.model_partition.specs.Splits.{SplitStep, with_phase, split_item, open_extent, open_last, all_kinds, or_kind, first_open, seal_packet, all_streams, build_packet, builds, seals_or_builds, record_stands, completes}
+use Rattle.model_partition.specs.Splits.{SplitStep, with_phase, split_item, open_extent, open_last, all_kinds, or_kind, first_open, seal_packet, all_streams, build_packet, builds, seals_or_builds, record_stands}
 use Rattle.model_histories.specs.ServerTurns as turns
 use Rattle.model_histories.specs.StreamMachine as machine
 use Rattle.laws_loads.specs.RangeView.{RangeView}
@@ -29,7 +29,7 @@ use Rattle.laws_ranges.proofs.AppendJob.{told_after}
 use Rattle.laws_ranges.proofs.ClientAsks.{some_last, at_last, seal_asked}
 use Rattle.laws_ranges.proofs.MachineSteps.{request_same, newest}
 use Rattle.laws_ranges.proofs.RowData.{got, rows_kept}
-use Rattle.laws_ranges.proofs.SplitSteps.{still_split, still_plain, metadata_split, log_split}
+use Rattle.laws_ranges.proofs.SplitSteps.{still_split, metadata_split, log_split}
 use Rattle.laws_ranges.proofs.ToldExtents.{sealed_length, sealed_end, told_sealed}
 
 -- ---- clients
@@ -112,11 +112,6 @@ module _ (generation : ℕ → ℕ) (range : ℕ) (w : StreamSystem) (i : ℕ) (
     builds_split closed =
         still_split generation range w i both m l d by v (builds d r job) (record { range_is = range_is; under = under; stage = b.paused.stage; others = (low_other, high_other); stands = (b, closed) }) (omega arith)
         (build_asked (request d))
-
-    -- the map is to put the two in the place of the range
-    pub completes_split : open_last r.metadata.extents ≡ None → Sees (completes d r job)
-    completes_split closed =
-        still_plain generation range w i both m l d by v (completes d r job) (record { range_is = range_is; under = under; stage = b.paused.stage; others = (low_other, high_other); stands = (b, closed) }) (omega arith) (inl (λ u n s z. tt), tt)
 
     -- ---- seals
 

@@ -20,6 +20,21 @@ use Rattle.laws_stream_machine.proofs.ServerRequests.{same_request}
 use Rattle.laws_ranges.proofs.MachineSteps.{request_same}
 use Rattle.laws_ranges.proofs.MoreKnown.{told_on, serving_on, rows_on, follows_on}
 
+-- a number that the split waits under for row data is that of its seal
+pub seal_waited : (phase : SplitPhase) (q : ReqNo) → waits_seal phase q ≡ true → phase ≡ phases.Seal kinds.RowData q
+seal_waited (phases.Begin v) q waits = absurd cc
+seal_waited phases.Checkpoint q waits = absurd cc
+seal_waited phases.Queue q waits = absurd cc
+seal_waited phases.Record q waits = absurd cc
+seal_waited (phases.Seal kinds.Metadata v) q waits = absurd cc
+seal_waited (phases.Seal kinds.Log v) q waits = absurd cc
+seal_waited (phases.Seal kinds.RowData v) q waits = ap (phases.Seal kinds.RowData) (same_request v q waits)
+seal_waited (phases.Seal kinds.BlobData v) q waits = absurd cc
+seal_waited (phases.Build v) q waits = absurd cc
+seal_waited (phases.Keys side c) q waits = absurd cc
+seal_waited (phases.Complete v) q waits = absurd cc
+
+-- a client that rests does so however its stream goes on
 pub rests_wider : (generation : ℕ → ℕ) (name : StreamName) (w v : StreamSystem) (i : ℕ) (x y : Stand) (sent more : List Sent) → Wider name w v x.state y.state sent more → y.phase ≡ x.phase → (c : ClientState) →
     RestsIs generation name w i x sent c → RestsIs generation name v i y more c
 rests_wider generation name w v i x y sent more g same c b = record { told = told_on generation name w v i x y sent more g c b.told; idle = b.idle; live = b.live; stands = same ∙ b.stands }
@@ -102,22 +117,9 @@ module _ (generation : ℕ → ℕ) (range : ℕ) (w : StreamSystem) (i : ℕ) (
   pub both_row_data : (job : Option SplitJob) → FollowsBoth generation range w i job r m l → RowsStand range w m.sent l.sent r.rows
   both_row_data job b = (both_rows job b).1
 
-  aside_in : (job : SplitJob) (phase : SplitPhase) → PhaseStands generation range w i m l r job phase → (q : ReqNo) → waits_seal phase q ≡ true → IsAside m.sent l.sent q
-  aside_in job (phases.Begin v) b q waits = absurd cc
-  aside_in job phases.Checkpoint b q waits = absurd cc
-  aside_in job phases.Queue b q waits = absurd cc
-  aside_in job phases.Record b q waits = absurd cc
-  aside_in job (phases.Seal kinds.Metadata v) b q waits = absurd cc
-  aside_in job (phases.Seal kinds.Log v) b q waits = absurd cc
-  aside_in job (phases.Seal kinds.RowData v) b q waits = subst (IsAside m.sent l.sent) (same_request v q waits) b.1.0
-  aside_in job (phases.Seal kinds.BlobData v) b q waits = absurd cc
-  aside_in job (phases.Build v) b q waits = absurd cc
-  aside_in job (phases.Keys side c) b q waits = absurd cc
-  aside_in job (phases.Complete v) b q waits = absurd cc
-
   -- such a number is none of both streams
   pub seal_aside : (job : SplitJob) (q : ReqNo) → waits_seal job.phase q ≡ true → FollowsBoth generation range w i (Some job) r m l → IsAside m.sent l.sent q
-  seal_aside job q waits b = aside_in job job.phase b.stands q waits
+  seal_aside job q waits b = (subst (PhaseStands generation range w i m l r job) (seal_waited job.phase q waits) b.stands).1.0
 
 -- ---- a lease, the Gets that wait, and the values at hand
 

@@ -1,11 +1,8 @@
 -- What a rule of a range that is served does to its metadata, to which it appends the records of its checkpoints.
-use Rattle.std.specs.Prelude.{◌≡◌, ◌⊎◌, ℕ, suc, ◌<◌, ◌≤◌, true, List, [], Option, Some, None}
-use Rattle.wire.specs.declared.actor.ReqNo.{ReqNo}
-use Rattle.wire.specs.declared.actor.ReqNo.TheVariants as requests
+use Rattle.std.specs.Prelude.{◌≡◌, ℕ, suc, List, [], Option, Some, None}
 use Rattle.wire.specs.declared.streams.StreamKind.TheVariants as kinds
 use Rattle.replica.specs.Groups.{Group}
 use Rattle.client.specs.declared.load.LoadPhase.TheVariants as phases
-use Rattle.client.specs.Client.{awaits}
 use Rattle.model_streams.specs.StreamSystem.{StreamSystem}
 use Rattle.model_partition.specs.declared.server_context.ServerContext.{ServerContext}
 use Rattle.model_partition.specs.declared.stage.Stage.TheVariants as stages
@@ -62,9 +59,3 @@ module _ (generation : ℕ → ℕ) (range : ℕ) (w : StreamSystem) (i : ℕ) w
     pub goes : BothGo generation range w i (λ after n k. ServesBothIf after n k) m l d o
     pub metadata : AreSeenOf generation i kinds.Metadata v m.stand goes.metadata_turns actions
     pub log : AreSeenOf generation i kinds.Log v l.stand goes.log_turns actions
-
--- the number that row data waits under is the one that it waited under, for the same group, or one that the server had not used
-abbrev pub RowsGo : ServerContext → RangeState → RangeOutcome → Type 0
-RowsGo d r o =
-    (next : RangeState) → o.after ≡ Some next → (q : ReqNo) → awaits next.rows.job q ≡ true →
-    ((awaits r.rows.job q ≡ true) × (next.rows.group ≡ r.rows.group)) ⊎ ((k : ℕ) × (d.count ≤ k) × (k < o.count) × (q ≡ requests.Server d.server d.session k))

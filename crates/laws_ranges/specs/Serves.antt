@@ -78,15 +78,6 @@ abbrev pub group_in : turns.Phase Group → Group
 group_in (turns.Sent n append group) = group
 group_in phase = []
 
--- no group is formed
-abbrev pub IsUnformed : turns.Turn Group → Type 0
-IsUnformed (turns.Forms group) = ⊥
-IsUnformed turn = Unit {0}
-
-abbrev pub AreUnformed : List (turns.Turn Group) → Type 0
-AreUnformed [] = Unit {0}
-AreUnformed (turn ∷ earlier) = IsUnformed turn × AreUnformed earlier
-
 -- ---- a client
 
 -- whether the last extent is there and not sealed

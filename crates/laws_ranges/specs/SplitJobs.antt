@@ -1,8 +1,7 @@
 -- How a range that is being split, and its split, stand in the machines of the range's streams, by what the split waits for; and what a
 -- step of a split does to both.
-use Rattle.std.specs.Prelude.{◌≡◌, ◌⊎◌, ℕ, suc, ◌<◌, ◌≤◌, Bool, true, false, List, [], ◌∷◌, Option, Some, None, is_some, Contains}
+use Rattle.std.specs.Prelude.{◌≡◌, ◌⊎◌, ℕ, suc, Bool, true, false, List, [], ◌∷◌, Option, Some, None, is_some, Contains}
 use Rattle.wire.specs.declared.actor.ReqNo.{ReqNo}
-use Rattle.wire.specs.declared.actor.ReqNo.TheVariants as requests
 use Rattle.wire.specs.declared.body.AppendBody.TheVariants as appends
 use Rattle.wire.specs.declared.body.Body.{Body}
 use Rattle.wire.specs.declared.body.Body.TheVariants as bodies
@@ -16,7 +15,7 @@ use Rattle.wire.specs.declared.streams.StreamKind.TheVariants as kinds
 use Rattle.wire.specs.declared.streams.StreamName.{StreamName}
 use Rattle.client.specs.declared.job.Job.TheVariants as jobs
 use Rattle.client.specs.declared.load.LoadPhase.TheVariants as loads
-use Rattle.client.specs.Client.{ClientState, awaits}
+use Rattle.client.specs.Client.{ClientState}
 use Rattle.client.specs.Load.{load_awaits}
 use Rattle.client.specs.Requests.{is_same}
 use Rattle.model_streams.specs.StreamSystem.{StreamSystem}
@@ -194,26 +193,6 @@ module _ (generation : ℕ → ℕ) (range : ℕ) (w : StreamSystem) (i : ℕ) w
   pub record SplitSees (v : RangeView) (m l : Side) (d : ServerContext) (t : SplitStep) (actions : List StreamAction) : Type 0 where
     pub step : SplitGoes m l d t
     pub seen : AreSeen generation i v m.stand l.stand step.goes.metadata_turns step.goes.log_turns actions
-
--- ---- numbers
-
--- a number that a server had not used before a step
-abbrev pub IsUnusedBefore : ServerContext → ℕ → ReqNo → Type 0
-IsUnusedBefore d count q = (k : ℕ) × (d.count ≤ k) × (k < count) × (q ≡ requests.Server d.server d.session k)
-
-module _ (d : ServerContext) (r : RangeState) (job : SplitJob) where
-  abbrev pub SplitWaitsIf : ℕ → Option SplitJob → Type 0
-  SplitWaitsIf count None = Unit {0}
-  SplitWaitsIf count (Some later) = (q : ReqNo) → phase_awaits later.phase q ≡ true → (phase_awaits job.phase q ≡ true) ⊎ IsUnusedBefore d count q
-
-  abbrev pub RowsWaitIf : ℕ → Option RangeState → Type 0
-  RowsWaitIf count None = Unit {0}
-  RowsWaitIf count (Some next) = (q : ReqNo) → awaits next.rows.job q ≡ true → ((awaits r.rows.job q ≡ true) × (next.rows.group ≡ r.rows.group)) ⊎ IsUnusedBefore d count q
-
-  -- after a step of a split, what it waits for and what row data waits for is what was waited for, or has a number that was not used
-  pub record NumbersGo (t : SplitStep) : Type 0 where
-    pub split : SplitWaitsIf t.count t.job
-    pub rows : RowsWaitIf t.count t.range
 
 -- ---- the blob stream, to which nobody appends
 

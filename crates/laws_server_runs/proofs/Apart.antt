@@ -34,7 +34,7 @@ use Rattle.model_partition.specs.Range.{RangeState, RangeOutcome, request, picki
 use Rattle.model_partition.specs.Server.{ServerState, ServerOutcome, split_of, set_split}
 use Rattle.model_partition.specs.Servers.{ServerCell}
 use Rattle.model_histories.specs.ServerRun.{ServerRun, RangeEffect, ServerEvent, Takes, GivesUp, Checkpoints, Splits, Stops, Starts, Moment, Builds, after_event, first_run, run_of}
-use Rattle.model_histories.specs.ServedTables.{IsUnsplit, AreUnsplit, IsOfOthers, IsUnborn, AreUnborn}
+use Rattle.model_histories.specs.ServedTables.{IsOfOthers, IsUnborn, AreUnborn}
 use Rattle.model_histories.specs.StreamActions.{StreamAction}
 use Rattle.laws_loads.proofs.Entries.{entry_set, entry_other}
 use Rattle.laws_server_runs.specs.Places.{AreAscending, RunLaid}
@@ -44,7 +44,6 @@ use Rattle.laws_server_runs.proofs.LaidRuns.{no_splits, all_laid}
 use Rattle.laws_server_runs.proofs.RangeLists.{inserted_here, inserted_other, dropped_here, dropped_other}
 use Rattle.laws_server_runs.proofs.RunSteps.{IsAny, IsBuild, event_kind, any_assigned, AllNumbered, event_step}
 use Rattle.laws_server_runs.proofs.Unmerged.{HaveNoMerges, unmerged}
-use Rattle.laws_server_runs.proofs.Unsplit.{unsplit}
 
 module _ (k : ℕ) where
   -- the map's pairs have other numbers
@@ -269,14 +268,3 @@ module _ (k : ℕ) where
   pub unborn_apart : (batch servers : ℕ) (events : List ServerEvent) → AreUnborn k events → StaysApart batch servers events
   unborn_apart batch servers [] are = tt
   unborn_apart batch servers (event ∷ earlier) are = ((unborn_all batch servers earlier are.1, λ source range e. subst (IsUnborn k) e are.0), unborn_apart batch servers earlier are.1)
-
-  -- and where there are no splits
-  pub unsplit_apart : (batch servers : ℕ) (events : List ServerEvent) → AreUnsplit events → StaysApart batch servers events
-  unsplit_apart batch servers [] are = tt
-  unsplit_apart batch servers (event ∷ earlier) are = (
-    (
-      λ s cell st at up j job found. absurd (let z : None ≡ Some job = sym (ap (λ l. split_of l j) (unsplit batch servers earlier are.1 s cell at st up)) ∙ found in cc),
-      λ source range e same. subst IsUnsplit e are.0,
-    ),
-    unsplit_apart batch servers earlier are.1,
-  )

@@ -24,6 +24,7 @@ use Rattle.laws_tables.specs.Families.{IsNamed}
 use Rattle.laws_tables.specs.Runs.{Run, first_beginning, seen, KeepsKeys}
 use Rattle.laws_server_runs.specs.ChildInvariant.{SplitsHold, HasNothingOut, KeepsBehind, IsUnnamed, KeysStand, IsCompleting, ChildHolds, HasPair, IsBuilding, IsPaused, ChildAt, AreChildren, IsBuildOf, IsBuiltBy, MayBuild, BuildsSo, AreBornSo, ChildKept, ChildGoes, ChildFollows}
 use Rattle.laws_server_runs.specs.FamilyMembers.{IsMember, NamesOwn}
+use Rattle.laws_server_runs.specs.OwnKeys.{IsAtLineWithin}
 use Rattle.laws_server_runs.specs.RangeInvariant.{AreObserved}
 use Rattle.laws_server_runs.specs.RunInvariant.{view_at, with_stage, HeldKept, Taken, RunBehind, nothing_taken}
 use Rattle.laws_server_runs.specs.Turns.{outcome_of, IsOfServers}
@@ -33,7 +34,7 @@ use Rattle.laws_server_runs.proofs.BuiltStreams.{source_seen, began_with, build_
 use Rattle.laws_server_runs.proofs.ChildSteps.{child_step, owed_pair}
 use Rattle.laws_server_runs.proofs.ChildTold.{append_at}
 use Rattle.laws_server_runs.proofs.FamilyRanges.{seen_length}
-use Rattle.laws_server_runs.proofs.HeldLine.{IsAtLineWithin, at_own_keys}
+use Rattle.laws_server_runs.proofs.HeldLine.{at_own_keys}
 use Rattle.laws_server_runs.proofs.LaidRuns.{no_splits, all_laid}
 use Rattle.laws_server_runs.proofs.NamesBehind.{keeps_both, keeps_rest, stands_later, never_anew, own_names}
 use Rattle.laws_server_runs.proofs.Others.{streams_same}

@@ -24,7 +24,6 @@ use Rattle.model_histories.specs.Renaming.{renamed, renamed_copy, renamed_placed
 use Rattle.model_histories.specs.ServedTables.{AllStand, IsAtLine, items_under, is_under, line_to, end_to}
 use Rattle.model_partition.specs.Servers.{entries_if}
 use Rattle.model_partition.specs.Serving.{record_of}
-use Rattle.model_histories.specs.ServerRun.{place_number}
 use Rattle.model_histories.specs.Story.{Placed, StreamEvent, Made, Answered, Showed, Story, event_at, Copy, placed, whole, KeepsOrder, EndsRise}
 use Rattle.model_histories.specs.TableContents.{table_in}
 use Rattle.laws_loads.specs.MemoryLayers.{layer_in}
@@ -43,6 +42,7 @@ use Rattle.laws_checkpoints.specs.IndexLayers.{layer_at}
 use Rattle.laws_checkpoints.proofs.Checkpoints.{newer_layer}
 use Rattle.laws_checkpoints.proofs.ShownRows.{ascending_if, written_ascending}
 use Rattle.laws_checkpoints.proofs.TableLayers.{table_flat, served_layer}
+use Rattle.laws_server_runs.specs.OwnKeys.{IsAtLineWithin}
 use Rattle.laws_server_runs.specs.CheckpointInvariant.{CheckpointParts, parts_of, HoldsNone, HasNoted, HoldsPhase, HoldsCheckpoint}
 use Rattle.laws_server_runs.specs.RangeInvariant.{append_of, Matches, Serves, StreamsKept}
 use Rattle.laws_server_runs.proofs.ServedLine.{known_at, IsAtOwnLine, at_own_line}
@@ -224,14 +224,8 @@ out_count append (Some out) fits =
     ap (λ x. length (numbered_if x).items) (record_again (record_of out.first out.transactions) fits) ∙ mapped_length (λ t. t.changes) out.transactions
 
 module _ (texts : ℕ → Bytes) where
-  -- a range is at its line within its keys
-  pub record IsAtLineWithin (log : Story Group) (copies : ℕ → List (Copy Group)) (r : RangeState) : Type 0 where
-    pub position : place_number r.position ≡ end_to log r.load.generation
-    pub next : r.next ≡ suc (length (line_to (renamed decoded (whole Group copies log)) r.load.generation)) + length (waiting_out r.out)
-    pub table : (key : Bytes) → within r.said.keys key ≡ true → table_in texts (served_entries texts r) key ≡ after_line (line_to (renamed decoded (whole Group copies log)) r.load.generation) empty_table key
-
-  -- and for all keys, if it has all
-  pub at_line : (log : Story Group) (copies : ℕ → List (Copy Group)) (r : RangeState) → r.said.keys ≡ all_keys → IsAtLineWithin log copies r → IsAtLine texts log copies r
+  -- what is at its line within its keys is at its line, if it has all keys
+  pub at_line : (log : Story Group) (copies : ℕ → List (Copy Group)) (r : RangeState) → r.said.keys ≡ all_keys → IsAtLineWithin texts log copies r → IsAtLine texts log copies r
   at_line log copies r all at = record { position = at.position; next = at.next; table = λ key. at.table key (ap (λ keys. within keys key) all ∙ in_all key) }
 
   -- ---- layers in order
@@ -282,7 +276,7 @@ module _ (texts : ℕ → Bytes) where
 
     -- a range that is served is at its line within its keys, by any copies that belong to its loads
     pub at_own_keys : (rows : ℕ → List Row) → ShowsLayers (layer_at texts) first_beginning rows run → (order : KeepsOrder (log_of v)) → EndsRise (log_of v) → KeepsOrder (metadata_of v) → OutFits r.out → AllStand texts v.answered →
-        IsAtLineWithin (log_of v) order.copies r
+        IsAtLineWithin texts (log_of v) order.copies r
     at_own_keys rows shows order ends metadata_order fits stand = record {
       position = m.position ∙ position_at g (layer_at texts) run streams.chain ∙ ap (λ l. end_to l g) streams.log ∙ end_renamed (log_of v) g;
       next = m.next ∙ own.next ∙ (λ i. suc (length (line_is i)) + count i);

@@ -97,7 +97,6 @@ pub mod LaidSteps
 pub mod RangeLists
 pub mod StatesKept
 pub mod Unmerged
-pub mod Unsplit
 pub mod RunSteps
 pub mod Actions
 pub mod LaidRuns
@@ -122,4 +121,5 @@ pub mod WorkedRanges
 pub mod WorkedSplits
 mod WorkedChildren
 mod WorkedBirths
+mod WorkedReplays
 pub mod CheckpointActions

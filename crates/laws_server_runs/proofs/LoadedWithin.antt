@@ -6,8 +6,8 @@ use Rattle.wire.specs.declared.streams.StreamKind.TheVariants as kinds
 use Rattle.model_partition.specs.declared.table_note.TableNote.{TableNote}
 use Rattle.model_partition.specs.Loading.{Group}
 use Rattle.model_partition.specs.Past.{Bytes}
-use Rattle.model_histories.specs.ServedTables.{IsUnsplit, AreUnsplit, StreamsInOrder}
-use Rattle.model_histories.specs.ServerRun.{ServerRun, ServerEvent, Takes, GivesUp, Checkpoints, Splits, Stops, Starts, Moment, Builds, after_event, run_of, built_streams, own_or, stream_named, metadata_name}
+use Rattle.model_histories.specs.ServedTables.{StreamsInOrder}
+use Rattle.model_histories.specs.ServerRun.{ServerRun, ServerEvent, Builds, after_event, run_of, built_streams, own_or, stream_named, metadata_name}
 use Rattle.model_histories.specs.Story.{Story}
 use Rattle.model_histories.specs.StreamActions.{PlacedBytes}
 use Rattle.laws_server_runs.specs.Places.{bytes_of, IndexLaid, TablesWithin}
@@ -19,9 +19,8 @@ use Rattle.laws_server_runs.proofs.LaidBytes.{Covers}
 use Rattle.laws_server_runs.proofs.LaidRuns.{run_covers, all_laid, event_notes}
 use Rattle.laws_server_runs.proofs.LaidTables.{RecordsLaid, records_later, tables_later, tables_both, step_records, step_tables}
 use Rattle.laws_server_runs.proofs.RunSteps.{IsAny, IsAnyPair, IsBuild, any_assigned, any_numbered, event_kind, event_step}
-use Rattle.laws_server_runs.proofs.Apart.{unsplit_apart}
 use Rattle.laws_server_runs.proofs.SplitsHeld.{splits_hold}
-use Rattle.laws_server_runs.proofs.Theorem.{before, first_kept, all_kept}
+use Rattle.laws_server_runs.proofs.Theorem.{before, first_kept}
 use Rattle.laws_server_runs.proofs.Unmerged.{unmerged}
 use Rattle.laws_server_runs.proofs.UntouchedRanges.{HasNothing}
 
@@ -130,29 +129,3 @@ module _ (texts : ℕ → Bytes) where
         let x : ServerRun = run_of batch servers earlier in
         event_within batch servers event earlier (kept_of earlier stays.2) stays.0 order
         (all_within earlier stays.2 (λ range. before texts range x (after_event x event) (event_longer x event) (order range))) stays.1
-
-    -- ---- where there are no splits
-
-    unsplit_fresh : (x : ServerRun) (event : ServerEvent) → IsUnsplit event → BuildsFresh x event
-    unsplit_fresh x (Takes s p) unsplit = tt
-    unsplit_fresh x (GivesUp s range pick) unsplit = tt
-    unsplit_fresh x (Checkpoints s range combine) unsplit = tt
-    unsplit_fresh x (Splits s range key) unsplit = tt
-    unsplit_fresh x (Stops s call) unsplit = tt
-    unsplit_fresh x (Starts s now batch) unsplit = tt
-    unsplit_fresh x (Moment now) unsplit = tt
-    unsplit_fresh x (Builds source range) unsplit = absurd unsplit
-
-    unsplit_kept : (events : List ServerEvent) → AreUnsplit events → ((range : ℕ) → StreamsInOrder texts range (run_of batch servers events)) → StaysKept events
-    unsplit_kept [] are order = tt
-    unsplit_kept (event ∷ earlier) are order =
-        let x : ServerRun = run_of batch servers earlier in (
-          λ range. (nothing_taken, all_kept texts range batch servers (event ∷ earlier) (unsplit_apart range batch servers (event ∷ earlier) are) (order range)),
-          unsplit_fresh x event are.0,
-          unsplit_kept earlier are.1 (λ range. before texts range x (after_event x event) (event_longer x event) (order range)),
-        )
-
--- whatever comes, where there are no splits
-pub loaded_within : (texts : ℕ → Bytes) (batch servers : ℕ) (events : List ServerEvent) → AreUnsplit events → ((range : ℕ) → StreamsInOrder texts range (run_of batch servers events)) →
-    TablesWithin texts (bytes_of (run_of batch servers events)) (run_of batch servers events).notes
-loaded_within texts batch servers events are order = (all_within texts batch servers events (unsplit_kept texts batch servers events are order) order).tables

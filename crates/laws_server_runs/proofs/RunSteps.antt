@@ -37,7 +37,6 @@ use Rattle.laws_loads.proofs.Entries.{entry_set, entry_other, entry_unmapped}
 use Rattle.laws_server_runs.specs.Turns.{IsRule, Transacts, Answers, Gets, Yields, Checkpoints as BeginsCheckpoint, Renews, IsCalm, HasRoom, stood_by, with_split, of_split, Alone, BeginsSplit, Drops, Follows, Leaves, Holds, Hears, IsEffect, Own, None_done, OfOthers, Turn, Idles, Opens, Acts, outcome_of, IsOfServers, HoldNoMore, RunStep, Keeps, Passes, Turns}
 use Rattle.laws_server_runs.proofs.StatesKept.{opened}
 use Rattle.laws_server_runs.proofs.Unmerged.{HasNoMerge, HaveNoMerges, stepped_unmerged, given_up_unmerged, assigned_unmerged, answer_unmerged, unawaited_merge, jobs_unmerged}
-use Rattle.laws_server_runs.proofs.Unsplit.{not_refused}
 
 -- ---- what the map assigns
 
@@ -81,6 +80,11 @@ is_none (Some x) e = absurd cc
 busy_no : (fault : Option Refusal) → busy_if true fault ≡ None → ⊥
 busy_no None e = let z : Some refusals.Busy ≡ None = e in cc
 busy_no (Some why) e = let z : Some why ≡ None = e in cc
+
+-- where a checkpoint is not refused the range itself refuses none
+pub not_refused : (jobs : Bool) (fault : Option Refusal) → busy_if jobs fault ≡ None → fault ≡ None
+not_refused jobs None e = refl
+not_refused jobs (Some why) e = absurd cc
 
 -- nor is it split again
 abbrev split_tests : RangeState → List ℕ → List (Refusal × Bool)

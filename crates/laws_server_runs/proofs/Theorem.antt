@@ -9,7 +9,7 @@ use Rattle.model_histories.specs.Renaming.{decoded, decoded_record}
 use Rattle.model_partition.specs.Server.{range_of, split_of}
 use Rattle.model_histories.specs.Story.{KeepsOrder, EndsRise}
 use Rattle.model_histories.specs.ServerRun.{ServerRun, ServerEvent, after_event, first_run, run_of, log_name, metadata_name}
-use Rattle.model_histories.specs.ServedTables.{AreFirst, AreUnsplit, AreUnborn, AreSeenAs, StreamsInOrder, IsAtLine, ServesAt}
+use Rattle.model_histories.specs.ServedTables.{AreFirst, AreUnborn, AreSeenAs, StreamsInOrder, IsAtLine, ServesAt}
 use Rattle.laws_loads.proofs.Renaming.{renamed_keeps}
 use Rattle.laws_tables.proofs.Ends.{renamed_ends_rise}
 use Rattle.laws_tables.proofs.Final.{tables_of_first_range_replay}
@@ -34,7 +34,7 @@ use Rattle.laws_server_runs.proofs.Unmerged.{HaveNoMerges, unmerged}
 use Rattle.laws_server_runs.proofs.SeenTables.{seen_as, all_seen}
 use Rattle.laws_server_runs.proofs.ServedNotes.{serves_of}
 use Rattle.laws_server_runs.proofs.Steps.{kept_at}
-use Rattle.laws_server_runs.proofs.Apart.{StaysApart, unborn_apart, unsplit_apart}
+use Rattle.laws_server_runs.proofs.Apart.{StaysApart, unborn_apart}
 
 module _ (texts : ℕ → Bytes) (subject : ℕ) where
   -- what is premised of a run was so before its last event
@@ -128,18 +128,3 @@ module _ (texts : ℕ → Bytes) (batch servers : ℕ) where
   pub run_at_line : (events : List ServerEvent) (s range : ℕ) (r : RangeState) → AreUnborn range events → (p : StreamsInOrder texts range (run_of batch servers events)) →
       ServesAt (run_of batch servers events) s range r → IsAtLine texts ((run_of batch servers events).story (log_name range)) p.log.copies r
   run_at_line events s range r are p at = served_at_line events s range r are p at p.log
-
-  -- ---- where there are no splits
-
-  pub unsplit_replays : (events : List ServerEvent) (h : List Note) → AreUnsplit events → AreFirst events → StreamsInOrder texts first_range (run_of batch servers events) →
-      AreSeenAs texts (run_of batch servers events).notes (table_notes h) → Replays h
-  unsplit_replays events h are first order seen = apart_replays events h (unsplit_apart first_range batch servers events are) first order seen
-
-  pub unsplit_served : (events : List ServerEvent) (s range : ℕ) (r : RangeState) → AreUnsplit events → StreamsInOrder texts range (run_of batch servers events) →
-      ServesAt (run_of batch servers events) s range r → (log : KeepsOrder ((run_of batch servers events).story (log_name range))) →
-      IsAtLine texts ((run_of batch servers events).story (log_name range)) log.copies r
-  unsplit_served events s range r are order at log = apart_at_line events s range r (unsplit_apart range batch servers events are) order at log
-
-  pub unsplit_at_line : (events : List ServerEvent) (s range : ℕ) (r : RangeState) → AreUnsplit events → (p : StreamsInOrder texts range (run_of batch servers events)) →
-      ServesAt (run_of batch servers events) s range r → IsAtLine texts ((run_of batch servers events).story (log_name range)) p.log.copies r
-  unsplit_at_line events s range r are p at = apart_at_line events s range r (unsplit_apart range batch servers events are) p at p.log

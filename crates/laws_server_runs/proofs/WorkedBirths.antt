@@ -44,7 +44,7 @@ other_number k j apart =
     (cases_lt k j)
 
 -- what is found in a list of one entry is that one
-only_number : {A : Type 0} (k j : ℕ) (a b : A) → lookup (is_at (nat_cmp k)) ((j, a) ∷ []) ≡ Some b → (k ≡ j) × (b ≡ a)
+pub only_number : {A : Type 0} (k j : ℕ) (a b : A) → lookup (is_at (nat_cmp k)) ((j, a) ∷ []) ≡ Some b → (k ≡ j) × (b ≡ a)
 only_number {A} k j a b e = elim (cases_eq k j) [
   | inl is ↦ (is, found (is_at (nat_cmp k) j) e)
   | inr apart ↦ absurd (none (ap (λ t. cond t (Some a) None) (sym (other_number k j apart)) ∙ e))
@@ -64,11 +64,13 @@ abbrev OfState : (ServerState → Type 0) → Option ServerState → Type 0
 OfState P None = Unit {0}
 OfState P (Some st) = P st
 
-abbrev AtState : (ServerState → Type 0) → List ServerCell → Type 0
+-- the same over the list of servers, which has but one
+abbrev pub AtState : (ServerState → Type 0) → List ServerCell → Type 0
 AtState P (cell ∷ []) = OfState P cell.state
 AtState P cells = ⊥
 
-at_state : (P : ServerState → Type 0) (cells : List ServerCell) → AtState P cells → (s : ℕ) (cell : ServerCell) (st : ServerState) → entry_at cells s ≡ Some cell → cell.state ≡ Some st → P st × (s ≡ 1) × (entry_at cells 1 ≡ Some cell)
+-- of any server that runs it is so, and that is the only one
+pub at_state : (P : ServerState → Type 0) (cells : List ServerCell) → AtState P cells → (s : ℕ) (cell : ServerCell) (st : ServerState) → entry_at cells s ≡ Some cell → cell.state ≡ Some st → P st × (s ≡ 1) × (entry_at cells 1 ≡ Some cell)
 at_state P (one ∷ []) a (suc zero) cell st e runs = let is : one ≡ cell = cc in (subst (OfState P) (ap (λ c. c.state) is ∙ runs) a, refl, e)
 at_state P (one ∷ []) a zero cell st e runs = absurd cc
 at_state P (one ∷ []) a (suc (suc n)) cell st e runs = absurd cc
@@ -246,10 +248,11 @@ OfOthers range (tables.Done other generation number ∷ told) = ((range == other
 OfOthers range (tables.Loaded other generation table next ∷ told) = ((range == other) ≡ false) × OfOthers range told
 
 -- where an observation is not of a range, the rest is what is told of it
-rest : (range : ℕ) (note : Note) (notes : List Note) → is_of range note ≡ false → only range notes ≡ [] → only range (note ∷ notes) ≡ []
+pub rest : (range : ℕ) (note : Note) (notes : List Note) → is_of range note ≡ false → only range notes ≡ [] → only range (note ∷ notes) ≡ []
 rest range note notes other none = ap (λ b. cond b (note ∷ only range notes) (only range notes)) other ∙ none
 
-told_none : (texts : ℕ → Bytes) (range : ℕ) (told : List TableNote) (notes : List Note) → OfOthers range told → AreSeenAs texts told notes → only range notes ≡ []
+-- where all that is told is of other ranges, nothing is told of this one
+pub told_none : (texts : ℕ → Bytes) (range : ℕ) (told : List TableNote) (notes : List Note) → OfOthers range told → AreSeenAs texts told notes → only range notes ≡ []
 told_none texts range [] [] others seen = refl
 told_none texts range [] (note ∷ notes) others seen = absurd seen
 told_none texts range (t ∷ told) [] others seen = absurd seen
@@ -274,11 +277,13 @@ may_build texts source range x waits story others =
 
 -- ---- over a list of events
 
-abbrev AllSound : (ℕ → Bytes) → List ServerEvent → Type 0
+-- what is premised is so at each of these moments
+abbrev pub AllSound : (ℕ → Bytes) → List ServerEvent → Type 0
 AllSound texts [] = Unit {0}
 AllSound texts (event ∷ earlier) = AtState (SoundAt (event ∷ earlier)) (run_of 1 1 (event ∷ earlier)).servers × BuildsSo texts event (run_of 1 1 earlier) × AllSound texts earlier
 
-births : (texts : ℕ → Bytes) (events : List ServerEvent) → AllSound texts events → AreBornSo texts 1 1 events
+-- and so it is premised of all of them
+pub births : (texts : ℕ → Bytes) (events : List ServerEvent) → AllSound texts events → AreBornSo texts 1 1 events
 births texts [] sound = tt
 births texts (event ∷ earlier) sound = (children_of (event ∷ earlier) (run_of 1 1 (event ∷ earlier)) sound.0, sound.1, births texts earlier sound.2)
 
@@ -286,16 +291,17 @@ births texts (event ∷ earlier) sound = (children_of (event ∷ earlier) (run_o
 
 -- the streams of the two are built when all that the range made is answered, and the split hears of it
 abbrev sealed_log : List ServerEvent
-sealed_log = sealed_at 13 20 4096 ∷ sealed_at 12 30 128 ∷ recorded
+sealed_log = sealed_at 13 20 9 ∷ sealed_at 12 30 74 ∷ recorded
 
 abbrev built_low : List ServerEvent
 built_low = Builds first_range 2 ∷ sealed_log
 
-abbrev told_built : List ServerEvent
+-- the split hears that both are built
+abbrev pub told_built : List ServerEvent
 told_built = comes 1 Manager (bodies.Stream (streams.Modified (asked 1 14))) ∷ Builds first_range 3 ∷ built_low
 
 -- the keys of both stand, each in an extent of its own, and the end is asked for
-abbrev said_both : List ServerEvent
+abbrev pub said_both : List ServerEvent
 said_both = stands_at 18 32 0 ∷ grows_to 17 32 ∷ stands_at 16 31 0 ∷ grows_to 15 31 ∷ told_built
 
 -- the two have the numbers 2 and 3
@@ -333,7 +339,8 @@ module _ (texts : ℕ → Bytes) where
   unfolding numbers.number
   built_sound = ((apart, inr (inr (inl (1, refl))), inr (inl (1, refl))), tt, (apart, high_may, (apart, low_may, sealed_sound)))
 
-  said_sound : AllSound texts said_both
+  -- until both are said
+  pub said_sound : AllSound texts said_both
   unfolding numbers.number
   said_sound = (
     apart,

@@ -22,7 +22,7 @@ use Rattle.laws_server_runs.proofs.WorkedSplits.{key, recorded, sealed_at, stand
 abbrev built : List ServerEvent
 built =
     comes 1 Manager (bodies.Stream (streams.Modified (asked 1 14)))
-    ∷ Builds first_range 3 ∷ Builds first_range 2 ∷ sealed_at 13 20 4096 ∷ sealed_at 12 30 128 ∷ recorded
+    ∷ Builds first_range 3 ∷ Builds first_range 2 ∷ sealed_at 13 20 9 ∷ sealed_at 12 30 74 ∷ recorded
 
 -- the keys of the lower one stand, in an extent of its own
 abbrev said_low : List ServerEvent
@@ -38,7 +38,7 @@ low_keys = spelling (record { number = 3; item = Ranges (record { low = []; high
 
 -- the keys are the sixth event of its metadata, behind the split's record, which is the range's fourth
 low_metadata : (rest : Story Group) × ((run_of 1 1 said_low).story (metadata_name 2)
-    ≡ Answered 5 (base 1 + 0) ((base 1 + 0) + group_size low_keys) ∷ Made 1 low_keys ∷ Answered 3 (base 0 + 64) ((base 0 + 64) + group_size split_record) ∷ Made 1 split_record ∷ rest)
+    ≡ Answered 5 (base 1 + 0) ((base 1 + 0) + group_size low_keys) ∷ Made 1 low_keys ∷ Answered 3 (base 0 + 46) ((base 0 + 46) + group_size split_record) ∷ Made 1 split_record ∷ rest)
 unfolding numbers.number
 low_metadata = (_, refl)
 

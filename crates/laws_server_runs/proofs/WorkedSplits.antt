@@ -54,10 +54,10 @@ checkpointed =
 
 -- the split's record stands behind it, and the last extents are sealed
 abbrev pub recorded : List ServerEvent
-recorded = stands_at 10 30 64 ∷ checkpointed
+recorded = stands_at 10 30 46 ∷ checkpointed
 
 abbrev pub built : List ServerEvent
-built = comes 1 Manager (bodies.Stream (streams.Modified (asked 1 14))) ∷ sealed_at 13 20 4096 ∷ sealed_at 12 30 128 ∷ recorded
+built = comes 1 Manager (bodies.Stream (streams.Modified (asked 1 14))) ∷ sealed_at 13 20 9 ∷ sealed_at 12 30 74 ∷ recorded
 
 -- the keys stand in the metadata of the two, each in an extent of its own
 abbrev pub said_low : List ServerEvent
@@ -68,16 +68,20 @@ said_high = stands_at 18 32 0 ∷ grows_to 17 32 ∷ said_low
 
 -- ---- what its server makes of it
 
-abbrev record_of : ℕ → MetaItem → Group
+-- a group of one record of metadata
+abbrev pub record_of : ℕ → MetaItem → Group
 record_of number item = spelling (record { number = number; item = item }) ∷ []
 
-abbrev split_record : Group
+-- the record of the split
+abbrev pub split_record : Group
 split_record = record_of 2 (SplitStatus 2 3 key)
 
-abbrev low_keys : Group
+-- the record of the keys of the lower of the two
+abbrev pub low_keys : Group
 low_keys = record_of 3 (Ranges (record { low = []; high = Some key }))
 
-abbrev high_keys : Group
+-- that of the upper
+abbrev pub high_keys : Group
 high_keys = record_of 3 (Ranges (record { low = key; high = None }))
 
 -- the two begin with the extent of the range's metadata, so that theirs are at index 1
@@ -93,7 +97,7 @@ unfolding numbers.number
 high_story = refl
 
 -- the split's record is the fourth event of the range's own metadata
-own_story : (rest : Story Group) × ((run_of 1 1 said_high).story (metadata_name first_range) ≡ Answered 3 (base 0 + 64) ((base 0 + 64) + group_size split_record) ∷ Made 1 split_record ∷ rest)
+own_story : (rest : Story Group) × ((run_of 1 1 said_high).story (metadata_name first_range) ≡ Answered 3 (base 0 + 46) ((base 0 + 46) + group_size split_record) ∷ Made 1 split_record ∷ rest)
 unfolding numbers.number
 own_story = (_, refl)
 

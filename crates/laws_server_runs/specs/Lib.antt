@@ -8,3 +8,4 @@ pub mod RunInvariant
 pub mod Places
 pub mod Turns
 pub mod FamilyMembers
+pub mod OwnKeys

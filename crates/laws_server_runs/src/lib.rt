@@ -11,8 +11,7 @@
 //! What is said of the tables of a range is said within the keys that its metadata names; a range that no split made has all (`KeptKeys`).
 //! A range whose streams were built of another's takes what that one's run was then (`ChildTheorem`), while nothing is out there nor formed
 //! since (`ClosedRanges`, `FormedGroups`). Where each range of which anything is told is the first one, or such a one whose split waited
-//! for its end, and the map says so, all that is told replays (`FamilyMembers`, `CompletedSplits`, `SplitsReplay`); that the map says
-//! so of whole runs is not proved yet.
+//! for its end, and the map says so, all that is told replays (`FamilyMembers`, `CompletedSplits`, `SplitsReplay`).
 //! What each step of a checkpoint leaves is proved beside them (`CheckpointSteps`, `CheckpointKept`), also while one that combines merges
 //! the older pages (`CheckpointMerges`), those that the range's cache holds among them (`HeldBytes`). Numbers are any here, where a
 //! server has those of 64 and of 32 bits: the rules test those of a checkpoint, and the end of a log that is served.

@@ -38,7 +38,7 @@
 //! promises that it is what the lines of the text print, run in order over one run of `world`, and that the line which it names
 //! of a text that is no script is the first at which it is none. Of that run `world` promises
 //! that what is observed of extents agrees and keeps each acknowledged append, and that what is observed of tables replays where
-//! no event splits or merges ranges.
+//! no event merges ranges.
 //! docs/PROOFS.md leads from here to each part.
 //!
 //! # Tests

@@ -1,14 +1,14 @@
--- A run stays a run; what it shows agrees and is kept, and where no range is split or merged it is honest.
+-- A run stays a run; what it shows agrees and is kept, and where no two ranges are merged it is honest.
 use Rattle.std.proofs.Common.{◌≡◌, ◌<◌, ◌+◌, ℕ, suc, List, [], ◌∷◌, ◌++◌, Result, Ok, Err, OnOk, OnErr, refl, sym, ap, ◌∙◌, subst, take, length, slice_index_or, arith}
 use Rattle.std.proofs.Math.Seq.{take-suc}
 use Rattle.model_streams.specs.declared.event.Event.{Event}
 use Rattle.model_streams.specs.Honest.{Agree, Kept}
-use Rattle.model_partition.specs.Cluster.{AreUnsplit, Cluster, cluster_after, cluster_after_all, first_cluster}
+use Rattle.model_partition.specs.Cluster.{AreUnmerged, Cluster, cluster_after, cluster_after_all, first_cluster}
 use Rattle.model_partition.specs.Honest.{Honest}
 use Rattle.laws_servers.proofs.EventsAsMoves.{led_agrees as all_agree, led_keeps as all_kept}
 use Rattle.laws_clusters.proofs.Theorem.{led_honest as all_honest}
 use Rattle.world_streams.specs.declared.fault.WorldFault.{WorldFault}
-use Rattle.world.specs.Cluster.{ClusterState, ClusterMirrors, ClusterSimulates, ReachedBy, IsRun, IsUnsplitRun}
+use Rattle.world.specs.Cluster.{ClusterState, ClusterMirrors, ClusterSimulates, ReachedBy, IsRun, IsUnmergedRun}
 
 -- ---- events
 
@@ -39,9 +39,9 @@ led_agrees nodes servers target batch events x h = subst Agree (sym h.stream_lay
 pub led_keeps : (nodes servers target batch : ℕ) (events : List Event) (x : ClusterState) → ReachedBy events (first_cluster nodes servers target batch) x → Kept x.stream_layer.notes
 led_keeps nodes servers target batch events x h = subst Kept (sym h.stream_layer.notes) (all_kept nodes servers target batch events)
 
-pub led_honest : (nodes servers target batch : ℕ) (events : List Event) (x : ClusterState) → ReachedBy events (first_cluster nodes servers target batch) x → AreUnsplit events →
+pub led_honest : (nodes servers target batch : ℕ) (events : List Event) (x : ClusterState) → ReachedBy events (first_cluster nodes servers target batch) x → AreUnmerged events →
     Honest x.stream_layer.notes
-led_honest nodes servers target batch events x h unsplit = subst Honest (sym h.stream_layer.notes) (all_honest nodes servers target batch events unsplit)
+led_honest nodes servers target batch events x h unmerged = subst Honest (sym h.stream_layer.notes) (all_honest nodes servers target batch events unmerged)
 
 -- ---- runs
 
@@ -72,5 +72,5 @@ run_agrees x h = led_agrees h.nodes h.servers h.target h.batch h.events x h.led
 pub run_keeps : (x : ClusterState) → IsRun x → Kept x.stream_layer.notes
 run_keeps x h = led_keeps h.nodes h.servers h.target h.batch h.events x h.led
 
-pub is_honest : (x : ClusterState) → IsUnsplitRun x → Honest x.stream_layer.notes
-is_honest x h = led_honest h.nodes h.servers h.target h.batch h.events x h.led h.unsplit
+pub is_honest : (x : ClusterState) → IsUnmergedRun x → Honest x.stream_layer.notes
+is_honest x h = led_honest h.nodes h.servers h.target h.batch h.events x h.led h.unmerged

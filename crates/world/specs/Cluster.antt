@@ -8,7 +8,7 @@ use Rattle.model_streams.specs.declared.event.Event.{Event}
 use Rattle.model_streams.specs.declared.event.Event.TheVariants.{Decide, GiveUp, Checkpoint, Split, Merge, Assign, Renew}
 use Rattle.model_streams.specs.Maps.{entry_at}
 use Rattle.model_partition.specs.Servers.{ServerCell, checkpoint_refusal_at, give_up_refusal, merge_refusal_at, split_refusal_at}
-use Rattle.model_partition.specs.Cluster.{AreUnsplit, Cluster, cluster_after, cluster_after_all, first_cluster}
+use Rattle.model_partition.specs.Cluster.{AreUnmerged, Cluster, cluster_after, cluster_after_all, first_cluster}
 use Rattle.world_map.specs.Seen.{MapSeen, MapMirrors, assign_refusal, renew_refusal}
 use Rattle.world_manager.specs.Seen.{decision_refusal}
 use Rattle.world_streams.specs.StreamLayer.{StreamLayerState, StreamLayerMirrors}
@@ -46,14 +46,14 @@ pub record IsRun (x : ClusterState) : Type 0 where
   pub events : List Event
   pub led : ReachedBy events (first_cluster nodes servers target batch) x
 
--- some events by which no range is split or merged made this, from the start of some setup
-pub record IsUnsplitRun (x : ClusterState) : Type 0 where
+-- some events by which no two ranges are merged made this, from the start of some setup
+pub record IsUnmergedRun (x : ClusterState) : Type 0 where
   pub nodes : ℕ
   pub servers : ℕ
   pub target : ℕ
   pub batch : ℕ
   pub events : List Event
-  pub unsplit : AreUnsplit events
+  pub unmerged : AreUnmerged events
   pub led : ReachedBy events (first_cluster nodes servers target batch) x
 
 -- whom a packet is for, where there is one

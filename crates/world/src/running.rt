@@ -6,7 +6,7 @@ ghost use Rattle.model_partition.specs.Honest.{Honest};
 ghost use Rattle.wire.specs.Refusal.{number_of};
 ghost use Rattle.world_nodes.specs.Seen.{seen_of};
 ghost use Rattle.world_streams.specs.Nodes.{running_at};
-ghost use Rattle.world.specs.Cluster.{ClusterSimulates, ClusterMirrors, IsUnsplitRun, refusal_of};
+ghost use Rattle.world.specs.Cluster.{ClusterSimulates, ClusterMirrors, IsUnmergedRun, refusal_of};
 
 use crate::cluster::Cluster;
 use disk::MemDisk;
@@ -19,7 +19,7 @@ use world_streams::{Setup, WorldFault};
 
 /// A cluster that events made. At each moment it is what the model makes of some list of events, from the start of some
 /// setup. So what was observed of extents agrees and is kept, at any moment and of any run; and what was observed of tables
-/// replays, at any moment of any run in which no range is split or merged.
+/// replays, at any moment of any run in which no two ranges are merged.
 pub struct Run {
     cluster: Cluster,
 }
@@ -81,14 +81,15 @@ impl Run {
     }
 
     /// All that was observed, in order. Whatever was asked, lost, repeated, reordered, split or merged: all that is shown of an
-    /// extent agrees, and every acknowledged append stands in it at its answered offset. Where no event split or merged ranges,
-    /// what was observed of tables replays too: each table that a load shows is that of a line of transactions that has every one
-    /// that was acknowledged under an earlier generation, in order, each once.
+    /// extent agrees, and every acknowledged append stands in it at its answered offset. Where no event merged ranges, whatever was
+    /// split, what was observed of tables replays too: each table that a load shows is, within the range's keys, that of a line of
+    /// transactions that has every one that was acknowledged under an earlier generation, of the range or of one that it was split
+    /// from, in order, each once.
     pub fn observations(&self) -> &[Note]
         ensures notes { result.now ≡ self.now.stream_layer.notes }
         ensures agree { Agree result.now }
         ensures kept { Kept result.now }
-        ensures honest { IsUnsplitRun self.now → Honest result.now }
+        ensures honest { IsUnmergedRun self.now → Honest result.now }
     {
         self.cluster.observations()
     }
