@@ -307,3 +307,40 @@ module _ (generation : ℕ → ℕ) (nodes target : ℕ) where
     pub observed : (range : ℕ) → AreObserved c.stream_layer.notes (y.shown range)
     pub acked : (range : ℕ) → AreObserved c.stream_layer.notes (y.answered range)
     pub told : (texts : ℕ → Bytes) → AllTellRightly texts c.stream_layer.notes → AreSeenAs texts y.notes (server_notes c.stream_layer.notes)
+
+  -- it stands over another base too, which its logs have grown from as well, and whose splits stand
+  abbrev pub over_base : {base : Bases generation} (c : Cluster) (y : ServerRun) (x : Standing base c y) (other : Bases generation) → ((range : ℕ) → GrewFrom (other.logs range) (x.machines range).l) →
+      ((s range : ℕ) (r : RangeState) (job : SplitJob) → HeldAt c.servers s range r → SplitAt c.servers s range job → IsFirm generation other s range → (i : ℕ) → x.incarnation s range ≡ Some i →
+      KeysStand x.moves x.machines (y.history s) i r job job.phase) → Standing other c y
+  over_base c y x other grows keys = record {
+    moves = x.moves;
+    leads = x.leads;
+    machines = x.machines;
+    beside = x.beside;
+    grows = grows;
+    distinct = x.distinct;
+    past = x.past;
+    numbers = x.numbers;
+    out = x.out;
+    from_map = x.from_map;
+    counted = x.counted;
+    have = x.have;
+    first = x.first;
+    there = x.there;
+    lists = x.lists;
+    extends = x.extends;
+    incarnation = x.incarnation;
+    bound = x.bound;
+    own = x.own;
+    below = x.below;
+    idle = x.idle;
+    cells = x.cells;
+    servers = x.servers;
+    aside = x.aside;
+    keys = keys;
+    stories = x.stories;
+    says = x.says;
+    observed = x.observed;
+    acked = x.acked;
+    told = x.told;
+  }

@@ -11,7 +11,7 @@ use Rattle.model_partition.specs.Servers.{ServerCell}
 use Rattle.model_histories.specs.ServerRun.{ServerRun, after_action, after_actions, after_sides, with_outcome}
 use Rattle.model_histories.specs.StreamActions.{StreamAction, SideAction}
 use Rattle.laws_ranges.specs.SplitSides.{tagged}
-use Rattle.laws_clusters.proofs.Invariant.{Bases, HeldAt, SplitAt, IsFirm, KeysStand, Standing}
+use Rattle.laws_clusters.proofs.Invariant.{Bases, HeldAt, SplitAt, IsFirm, KeysStand, Standing, over_base}
 use Rattle.laws_clusters.proofs.SplitPackets.{actions_outcome}
 
 -- the split of that range at that server is in the midst of a step
@@ -28,75 +28,13 @@ calm_firm generation base s range calm e = no_value base.midst (s, range) calm e
 module _ (generation : ℕ → ℕ) (nodes target : ℕ) (base : Bases generation) (c : Cluster) (y : ServerRun) (s range : ℕ) where
   -- where none was, it may be
   abbrev pub into_midst : Standing generation nodes target base c y → base.midst ≡ None → Standing generation nodes target (in_midst generation base s range) c y
-  into_midst x calm = record {
-    moves = x.moves;
-    leads = x.leads;
-    machines = x.machines;
-    beside = x.beside;
-    grows = x.grows;
-    distinct = x.distinct;
-    past = x.past;
-    numbers = x.numbers;
-    out = x.out;
-    from_map = x.from_map;
-    counted = x.counted;
-    have = x.have;
-    first = x.first;
-    there = x.there;
-    lists = x.lists;
-    extends = x.extends;
-    incarnation = x.incarnation;
-    bound = x.bound;
-    own = x.own;
-    below = x.below;
-    idle = x.idle;
-    cells = x.cells;
-    servers = x.servers;
-    aside = x.aside;
-    keys = λ u k r job h split firm. x.keys u k r job h split (calm_firm generation base u k calm);
-    stories = x.stories;
-    says = x.says;
-    observed = x.observed;
-    acked = x.acked;
-    told = x.told;
-  }
+  into_midst x calm = over_base generation nodes target c y x (in_midst generation base s range) x.grows (λ u k r job h split firm. x.keys u k r job h split (calm_firm generation base u k calm))
 
   -- and where its two ranges stand again it is over
   pub out_of_midst : (x : Standing generation nodes target (in_midst generation base s range) c y) →
       ((r : RangeState) (job : SplitJob) → HeldAt c.servers s range r → SplitAt c.servers s range job → (i : ℕ) → x.incarnation s range ≡ Some i → KeysStand generation nodes target x.moves x.machines (y.history s) i r job job.phase) →
       Standing generation nodes target base c y
-  out_of_midst x own = record {
-    moves = x.moves;
-    leads = x.leads;
-    machines = x.machines;
-    beside = x.beside;
-    grows = x.grows;
-    distinct = x.distinct;
-    past = x.past;
-    numbers = x.numbers;
-    out = x.out;
-    from_map = x.from_map;
-    counted = x.counted;
-    have = x.have;
-    first = x.first;
-    there = x.there;
-    lists = x.lists;
-    extends = x.extends;
-    incarnation = x.incarnation;
-    bound = x.bound;
-    own = x.own;
-    below = x.below;
-    idle = x.idle;
-    cells = x.cells;
-    servers = x.servers;
-    aside = x.aside;
-    keys = all_keys;
-    stories = x.stories;
-    says = x.says;
-    observed = x.observed;
-    acked = x.acked;
-    told = x.told;
-  }
+  out_of_midst x own = over_base generation nodes target c y x base x.grows all_keys
     where
       all_keys : (u k : ℕ) (r : RangeState) (job : SplitJob) → HeldAt c.servers u k r → SplitAt c.servers u k job → IsFirm generation base u k → (i : ℕ) → x.incarnation u k ≡ Some i → KeysStand generation nodes target x.moves x.machines (y.history u) i r job job.phase
       all_keys u k r job h split firm i mine = elim (cases_eq u s) [

@@ -7,7 +7,7 @@ use Rattle.model_histories.specs.ServerTurns as machine
 use Rattle.model_histories.specs.Story.{Story}
 use Rattle.laws_tables.specs.Built.{story_of}
 use Rattle.laws_clusters.proofs.GrownLists.{GrewFrom, grew_far}
-use Rattle.laws_clusters.proofs.Invariant.{Machines, Bases, Standing}
+use Rattle.laws_clusters.proofs.Invariant.{Machines, Bases, Standing, over_base}
 
 module _ (generation : ℕ → ℕ) where
   -- the logs of both have grown from one beginning, of this story
@@ -28,38 +28,7 @@ module _ (generation : ℕ → ℕ) where
 
   -- what stands has grown from itself
   abbrev pub rebased : (nodes target : ℕ) {base : Bases generation} (c : Cluster) (y : ServerRun) (x : Standing generation nodes target base c y) → Standing generation nodes target (record { logs = λ range. (x.machines range).l; midst = base.midst }) c y
-  rebased nodes target {base} c y x = record {
-    moves = x.moves;
-    leads = x.leads;
-    machines = x.machines;
-    beside = x.beside;
-    grows = λ range. ([], refl);
-    distinct = x.distinct;
-    past = x.past;
-    numbers = x.numbers;
-    out = x.out;
-    from_map = x.from_map;
-    counted = x.counted;
-    have = x.have;
-    first = x.first;
-    there = x.there;
-    lists = x.lists;
-    extends = x.extends;
-    incarnation = x.incarnation;
-    bound = x.bound;
-    own = x.own;
-    below = x.below;
-    idle = x.idle;
-    cells = x.cells;
-    servers = x.servers;
-    aside = x.aside;
-    keys = x.keys;
-    stories = x.stories;
-    says = x.says;
-    observed = x.observed;
-    acked = x.acked;
-    told = x.told;
-  }
+  rebased nodes target {base} c y x = over_base generation nodes target c y x (record { logs = λ range. (x.machines range).l; midst = base.midst }) (λ range. ([], refl)) x.keys
 
 -- one of the two that were built of a range, with what was built before it
 pub two_builds : (P : (source range : ℕ) → List ServerEvent → Type 0) (parent low high : ℕ) → P parent high (Builds parent low ∷ []) → P parent low [] → (late early : List ServerEvent) (source range : ℕ) →
