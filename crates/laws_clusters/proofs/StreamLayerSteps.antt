@@ -41,7 +41,7 @@ use Rattle.laws_ranges.specs.Serves.{metadata_of, log_of, rows_of, Apart, Wider}
 use Rattle.laws_ranges.specs.SplitJobs.{RestsIs, PhaseStands, FollowsSplit}
 use Rattle.laws_ranges.specs.SplitSides.{SideWaits}
 use Rattle.laws_ranges.proofs.MoreKnown.{told_on}
-use Rattle.laws_ranges.proofs.SplitAnswers.{side_begins}
+use Rattle.laws_ranges.proofs.BuiltSides.{side_begins}
 use Rattle.laws_server_runs.specs.FamilyMembers.{of_servers}
 use Rattle.laws_clusters.proofs.Copies.{AllSay}
 use Rattle.laws_clusters.proofs.GrownLists.{GrewFrom, grew_on, grew_none}

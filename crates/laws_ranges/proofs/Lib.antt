@@ -56,7 +56,7 @@ pub mod SplitSeals
 pub mod SplitReplies
 pub mod SealedAppends
 pub mod SplitKeys
-pub mod SplitAnswers
+pub mod BuiltSides
 pub mod PausedRules
 pub mod PausedGiveUp
 pub mod ServedStays
