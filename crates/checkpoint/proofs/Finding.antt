@@ -8,6 +8,7 @@ use Rattle.std.specs.Map.{keys_of}
 use Rattle.std.specs.BTreeMap.{is_at}
 use Rattle.std.proofs.lemmas.Map.{NonePasses, lookup-none}
 use Rattle.memtable.specs.declared.cell.Cell.{Cell}
+use Rattle.memtable.specs.declared.cell.Cell.TheVariants.{Deleted, Inline, Placed}
 use Rattle.memtable.specs.declared.cell.Place.{Place}
 use Rattle.memtable.specs.Entries.{Entries, key_cmp, found}
 use Rattle.memtable.specs.Layers.{or_else}
@@ -21,7 +22,7 @@ use Rattle.checkpoint.specs.declared.page_lookup.Lookup.TheVariants.{Found, Abse
 use Rattle.checkpoint.specs.declared.installed_index.InstalledIndex.{InstalledIndex}
 use Rattle.checkpoint.specs.Lookup.{PageSource, last_or, page_for, cell_found, in_page, in_bytes, at_page, looked_in, or_older, looked_up}
 use Rattle.checkpoint.specs.Pages.{AreFiled, NoPages, Next, IsSourceOf, IndexContent, cell_in}
-use Rattle.checkpoint.specs.Contents.{IsContentOf, IsAnswerFor, LookupIsTheMap}
+use Rattle.checkpoint.specs.Contents.{IsContentOf, IsAnswerFor, LookupIsTheMap, shown}
 use Rattle.checkpoint.proofs.Orders.{IsSorted, less_is, equal_keys, keys_behind, sorted_behind, head_below, tail, below_all, absent_below, found_append}
 use Rattle.checkpoint.proofs.Merging.{sorted_entries}
 
@@ -70,12 +71,21 @@ apart key place filed others rest at (e ∷ xs) all = (by (is_at (key_cmp key) e
 
 -- ---- one index
 
-cell_is : (source : PageSource) (o : Option Cell) → IsAnswerFor source (or_else o None) (cell_found o)
+-- what an index may say of a key that has this cell there, or none
+abbrev IsSaid : PageSource → Option Cell → Option Lookup → Type 0
+IsSaid source cell None = cell ≡ None
+IsSaid source cell (Some (Found other)) = (cell ≡ Some other) × (shown (Some other) ≡ Some other)
+IsSaid source cell (Some Absent) = cell ≡ Some Deleted
+IsSaid source cell (Some (Need place)) = source place ≡ None
+
+cell_is : (source : PageSource) (o : Option Cell) → IsSaid source (or_else o None) (cell_found o)
 cell_is source None = refl
-cell_is source (Some cell) = refl
+cell_is source (Some Deleted) = refl
+cell_is source (Some (Inline value)) = (refl, refl)
+cell_is source (Some (Placed place)) = (refl, refl)
 
 found_in_pages : (source : PageSource) (key : List ℕ) (filed : List PageAt) (pages : List Entries) → AreFiled filed pages → IsSourceOf source filed pages → AllByRecursion IsRead pages
-    → IsSorted (joined pages) → IsAnswerFor source (found (joined pages) key) (at_page source key (page_for filed key))
+    → IsSorted (joined pages) → IsSaid source (found (joined pages) key) (at_page source key (page_for filed key))
 found_in_pages source key [] [] NoPages given read sorted = refl
 found_in_pages source key [] (_ ∷ others) filed_is given read sorted = elim filed_is [ ]
 found_in_pages source key (p ∷ filed) [] filed_is given read sorted = elim filed_is [ ]
@@ -89,52 +99,53 @@ found_in_pages source key (p ∷ filed) ((first ∷ entries) ∷ others) (Next _
     both : found (page ++ joined others) key ≡ or_else (found page key) (found (joined others) key)
     both = found_append page (joined others) key
 
-    by_bytes : found (joined others) key ≡ None → (o : Option (List ℕ)) → source p.place ≡ o → IsAnswerFor source (found (page ++ joined others) key) (in_bytes p.place key o)
+    by_bytes : found (joined others) key ≡ None → (o : Option (List ℕ)) → source p.place ≡ o → IsSaid source (found (page ++ joined others) key) (in_bytes p.place key o)
     by_bytes none None at = at
     by_bytes none (Some bytes) at =
         let is : entries_at bytes ≡ Some page = ap entries_at (given.0 bytes at) ∙ read.0 in
         let cell : found (page ++ joined others) key ≡ or_else (found page key) None = both ∙ ap (or_else (found page key)) none in
-        subst (λ (o : Option Entries). IsAnswerFor source (found (page ++ joined others) key) (in_page p.place key o)) (sym is)
-        (subst (λ (o : Option Cell). IsAnswerFor source o (cell_found (found page key))) (sym cell) (cell_is source (found page key)))
+        subst (λ (o : Option Entries). IsSaid source (found (page ++ joined others) key) (in_page p.place key o)) (sym is)
+        (subst (λ (o : Option Cell). IsSaid source o (cell_found (found page key))) (sym cell) (cell_is source (found page key)))
 
     by_first : found (joined others) key ≡ None → (b : Bool) → is_lt (key_cmp key p.first) ≡ b
-        → IsAnswerFor source (found (page ++ joined others) key) (at_page source key (cond (not b) (Some p.place) None))
+        → IsSaid source (found (page ++ joined others) key) (at_page source key (cond (not b) (Some p.place) None))
     by_first none true is =
         let less : key_cmp key first.0 ≡ Less = ap (key_cmp key) (sym same) ∙ less_is (key_cmp key p.first) is in
         absent_below key (page ++ joined others) (less, below_all key first.0 (keys_of (entries ++ joined others)) less (head_below first (entries ++ joined others) sorted))
     by_first none false is = by_bytes none (source p.place) refl
 
-    by_later : IsAnswerFor source (found (joined others) key) (at_page source key (page_for filed key)) → (o : Option Place) → page_for filed key ≡ o
-        → IsAnswerFor source (found (page ++ joined others) key) (at_page source key (last_or o (cond (not (is_lt (key_cmp key p.first))) (Some p.place) None)))
+    by_later : IsSaid source (found (joined others) key) (at_page source key (page_for filed key)) → (o : Option Place) → page_for filed key ≡ o
+        → IsSaid source (found (page ++ joined others) key) (at_page source key (last_or o (cond (not (is_lt (key_cmp key p.first))) (Some p.place) None)))
     by_later later None at =
-        by_first (subst (λ (o : Option Place). IsAnswerFor source (found (joined others) key) (at_page source key o)) at later) (is_lt (key_cmp key p.first)) refl
+        by_first (subst (λ (o : Option Place). IsSaid source (found (joined others) key) (at_page source key o)) at later) (is_lt (key_cmp key p.first)) refl
     by_later later (Some place) at =
         let none : found page key ≡ None = lookup-none (is_at (key_cmp key)) page (apart key place filed others rest at page (each_below page (joined others) sorted)) in
         let behind : found (page ++ joined others) key ≡ found (joined others) key = both ∙ ap (λ (o : Option Cell). or_else o (found (joined others) key)) none in
-        subst (λ (o : Option Cell). IsAnswerFor source o (at_page source key (Some place))) (sym behind)
-        (subst (λ (o : Option Place). IsAnswerFor source (found (joined others) key) (at_page source key o)) at later)
+        subst (λ (o : Option Cell). IsSaid source o (at_page source key (Some place))) (sym behind)
+        (subst (λ (o : Option Place). IsSaid source (found (joined others) key) (at_page source key o)) at later)
 
-found_in_index : (source : PageSource) (x : InstalledIndex) (content : IndexContent) (key : List ℕ) → IsContentOf source x content → IsAnswerFor source (found content.entries key) (looked_in source x.index key)
+found_in_index : (source : PageSource) (x : InstalledIndex) (content : IndexContent) (key : List ℕ) → IsContentOf source x content → IsSaid source (found content.entries key) (looked_in source x.index key)
 found_in_index source x content key is =
-    subst (λ (es : Entries). IsAnswerFor source (found es key) (looked_in source x.index key)) (pages_joined content.entries)
+    subst (λ (es : Entries). IsSaid source (found es key) (looked_in source x.index key)) (pages_joined content.entries)
     (found_in_pages source key x.index.pages (pages_of content.entries) is.index.filed is.index.source_is (pages_read content.entries is.entries.ascending is.entries.each)
     (subst IsSorted (sym (pages_joined content.entries)) (sorted_entries content.entries is.entries)))
 
 -- ---- all indexes
 
-newer_first : (source : PageSource) (cell : Option Cell) (others : Option Cell) (answer older : Lookup) → IsAnswerFor source cell answer → IsAnswerFor source others older
-    → IsAnswerFor source (or_else cell others) (or_older answer older)
-newer_first source cell others (Found other) older is behind = ap (λ (o : Option Cell). or_else o others) is
-newer_first source cell others Absent older is behind = subst (λ (o : Option Cell). IsAnswerFor source (or_else o others) older) (sym is) behind
-newer_first source cell others (Need place) older is behind = is
+newer_first : (source : PageSource) (cell : Option Cell) (others : Option Cell) (answer : Option Lookup) (older : Lookup) → IsSaid source cell answer → IsAnswerFor source (shown others) older
+    → IsAnswerFor source (shown (or_else cell others)) (or_older answer older)
+newer_first source cell others None older is behind = subst (λ (o : Option Cell). IsAnswerFor source (shown (or_else o others)) older) (sym is) behind
+newer_first source cell others (Some (Found other)) older is behind = ap (λ (o : Option Cell). shown (or_else o others)) is.0 ∙ is.1
+newer_first source cell others (Some Absent) older is behind = ap (λ (o : Option Cell). shown (or_else o others)) is
+newer_first source cell others (Some (Need place)) older is behind = is
 
 pub lookup_law : LookupIsTheMap
 lookup_law source [] [] key all = refl
 lookup_law source (x ∷ installed) (content ∷ contents) key all =
-    subst (λ (keys : KeyRange). IsAnswerFor source (or_else (cond (within keys key) (found content.entries key) None) (cell_in contents key)) (looked_up source (x ∷ installed) key)) all.0.keys
+    subst (λ (keys : KeyRange). IsAnswerFor source (shown (or_else (cond (within keys key) (found content.entries key) None) (cell_in contents key))) (looked_up source (x ∷ installed) key)) all.0.keys
     (by (lookup_law source installed contents key all.1) (within x.keys key))
   where
-    by : IsAnswerFor source (cell_in contents key) (looked_up source installed key) → (b : Bool) → IsAnswerFor source (or_else (cond b (found content.entries key) None) (cell_in contents key))
+    by : IsAnswerFor source (shown (cell_in contents key)) (looked_up source installed key) → (b : Bool) → IsAnswerFor source (shown (or_else (cond b (found content.entries key) None) (cell_in contents key)))
         (cond b (or_older (looked_in source x.index key) (looked_up source installed key)) (looked_up source installed key))
     by older true = newer_first source (found content.entries key) (cell_in contents key) (looked_in source x.index key) (looked_up source installed key) (found_in_index source x content key all.0) older
     by older false = older

@@ -28,16 +28,24 @@ pub record IsContentOf (source : PageSource) (installed : InstalledIndex) (conte
 abbrev pub AreContentsOf : PageSource → List InstalledIndex → List IndexContent → Type 0
 AreContentsOf source installed contents = AllZip (IsContentOf source) installed contents
 
--- what a look-up may answer of a key that has this cell, or none
+-- no cell where the key was deleted
+abbrev pub shown : Option Cell → Option Cell
+shown None = None
+shown (Some Deleted) = None
+shown (Some (Inline value)) = Some (Inline value)
+shown (Some (Placed place)) = Some (Placed place)
+
+-- what a look-up may answer of a key that shows this cell, or none
 abbrev pub IsAnswerFor : PageSource → Option Cell → Lookup → Type 0
 IsAnswerFor source cell (Found other) = cell ≡ Some other
 IsAnswerFor source cell Absent = cell ≡ None
 IsAnswerFor source cell (Need place) = source place ≡ None
 
--- A look-up answers the cell of the map that the indexes make together; a page that it wants is not at hand.
+-- A look-up answers the cell that the key has in the map which the indexes make together, and none where the key was deleted; a page
+-- that it wants is not at hand.
 abbrev pub LookupIsTheMap : Type 0
 LookupIsTheMap = (source : PageSource) (installed : List InstalledIndex) (contents : List IndexContent) (key : List ℕ) → AreContentsOf source installed contents
-    → IsAnswerFor source (cell_in contents key) (looked_up source installed key)
+    → IsAnswerFor source (shown (cell_in contents key)) (looked_up source installed key)
 
 -- ---- merging
 
@@ -57,13 +65,6 @@ abbrev pub MergedAreEntries : Type 0
 MergedAreEntries = (keys : KeyRange) (contents : List IndexContent) → AllByRecursion HasEntries contents → AreEntries (merged keys contents)
 
 -- ---- combining
-
--- no cell where the key was deleted
-abbrev pub shown : Option Cell → Option Cell
-shown None = None
-shown (Some Deleted) = None
-shown (Some (Inline value)) = Some (Inline value)
-shown (Some (Placed place)) = Some (Placed place)
 
 abbrev pub MayBeAscending : Option Entries → Type 0
 MayBeAscending None = Unit {0}

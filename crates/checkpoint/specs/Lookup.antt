@@ -1,7 +1,8 @@
 -- The look-up of a key in the indexes of checkpoints, the newest first, over the pages that are at hand.
-use Rattle.std.specs.Prelude.{ℕ, not, List, [], ◌∷◌, Option, Some, None, if◌then◌else◌}
+use Rattle.std.specs.Prelude.{ℕ, not, List, [], ◌∷◌, Option, Some, None, option_map, if◌then◌else◌}
 use Rattle.std.specs.Ordering.{is_lt}
 use Rattle.memtable.specs.declared.cell.Cell.{Cell}
+use Rattle.memtable.specs.declared.cell.Cell.TheVariants.{Deleted, Inline, Placed}
 use Rattle.memtable.specs.declared.cell.Place.{Place}
 use Rattle.memtable.specs.Entries.{Entries, key_cmp, found}
 use Rattle.metadata.specs.Keys.{within}
@@ -26,31 +27,36 @@ abbrev pub page_for : List PageAt → List ℕ → Option Place
 page_for [] key = None
 page_for (p ∷ pages) key = last_or (page_for pages key) (if not (is_lt (key_cmp key p.first)) then Some p.place else None)
 
-abbrev pub cell_found : Option Cell → Lookup
-cell_found None = Absent
-cell_found (Some cell) = Found cell
+-- a key that was deleted has no cell
+abbrev pub lookup_of : Cell → Lookup
+lookup_of Deleted = Absent
+lookup_of (Inline value) = Found (Inline value)
+lookup_of (Placed place) = Found (Placed place)
+
+-- what a page or an index says of a key, if it has the key
+abbrev pub cell_found : Option Cell → Option Lookup
+cell_found cell = option_map lookup_of cell
 
 -- bytes that spell no page are not that page's
-abbrev pub in_page : Place → List ℕ → Option Entries → Lookup
-in_page place key None = Need place
+abbrev pub in_page : Place → List ℕ → Option Entries → Option Lookup
+in_page place key None = Some (Need place)
 in_page place key (Some entries) = cell_found (found entries key)
 
-abbrev pub in_bytes : Place → List ℕ → Option (List ℕ) → Lookup
-in_bytes place key None = Need place
+abbrev pub in_bytes : Place → List ℕ → Option (List ℕ) → Option Lookup
+in_bytes place key None = Some (Need place)
 in_bytes place key (Some bytes) = in_page place key (entries_at bytes)
 
-abbrev pub at_page : PageSource → List ℕ → Option Place → Lookup
-at_page source key None = Absent
+abbrev pub at_page : PageSource → List ℕ → Option Place → Option Lookup
+at_page source key None = None
 at_page source key (Some place) = in_bytes place key (source place)
 
-abbrev pub looked_in : PageSource → Index → List ℕ → Lookup
+abbrev pub looked_in : PageSource → Index → List ℕ → Option Lookup
 looked_in source index key = at_page source key (page_for index.pages key)
 
 -- what a newer index says of a key hides what an older one says, also where it says that the key was deleted
-abbrev pub or_older : Lookup → Lookup → Lookup
-or_older Absent older = older
-or_older (Found cell) older = Found cell
-or_older (Need place) older = Need place
+abbrev pub or_older : Option Lookup → Lookup → Lookup
+or_older None older = older
+or_older (Some answer) older = answer
 
 -- each index within its keys, the newest first
 abbrev pub looked_up : PageSource → List InstalledIndex → List ℕ → Lookup

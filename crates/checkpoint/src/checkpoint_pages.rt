@@ -1,5 +1,5 @@
 //! The pages of a checkpoint while they are written.
-ghost use Rattle.std.specs.Prelude.{◌≡◌, ℕ, ◌+◌, ◌≤◌, ◌<◌, ◌^◌, ◌++◌, ◌∷◌, [], true, nat_le, length, take, drop, IfOk, OnOk, OnErr};
+ghost use Rattle.std.specs.Prelude.{◌≡◌, ℕ, ◌+◌, ◌≤◌, ◌<◌, ◌^◌, true, nat_le, length, take, drop, IfOk, OnOk, OnErr};
 ghost use Rattle.std.specs.List.{AllByRecursion, sum_by};
 ghost use Rattle.memtable.specs.Entries.{IsFit};
 ghost use Rattle.checkpoint_format.specs.Index.{IsIndex, fits_a_group};

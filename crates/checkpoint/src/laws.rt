@@ -2,7 +2,8 @@
 ghost use Rattle.checkpoint.specs.Contents as specs;
 
 /// A law: over indexes of entries in ascending order, each with its pages as far as they are at hand, a look-up answers the cell
-/// of the map that the indexes make together, or that it has none; and a page that it wants is not at hand.
+/// that the key has in the map which the indexes make together, and that there is none where the map has none or says that the key
+/// was deleted; and a page that it wants is not at hand.
 pub fn lookup_is_the_map()
     ensures { specs.LookupIsTheMap }
 {}

@@ -3,7 +3,7 @@
 //! A checkpoint of a range has written its memory table as pages and an index of them (docs/FORMATS.md). This crate touches
 //! memory alone: it asks for the pages that it wants by their places. What the layers above may build on, each a clause here:
 //! - `lookup` goes through the indexes that count within a key, the newest first, and answers the cell of the first that has the
-//!   key, or that none has it, or the place of the page that it wants to see first (`looked_up`).
+//!   key, or that there is none, also of a key that was deleted, or the place of the page that it wants to see first (`looked_up`).
 //! - `add_page` takes the entries of a page that count, and `combine` writes the pages of what indexes and a newer layer say
 //!   together, without the keys that have no value. `PageMerge` merges the pages of all indexes, those of the oldest first, as
 //!   they are read or found at hand.

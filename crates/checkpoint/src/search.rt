@@ -28,35 +28,35 @@ pub fn page_for(pages: &[PageAt], key: &[u8]) -> Option<Place>
     }
 }
 
-/// What the page at a place says of the key.
-fn in_page(place: Place, page: &Bytes, key: &[u8]) -> Result<Lookup, AllocError>
+/// What the page at a place says of the key, if it has the key or is no page.
+fn in_page(place: Place, page: &Bytes, key: &[u8]) -> Result<Option<Lookup>, AllocError>
     ensures { IfOk result (λ found. found ≡ specs.in_bytes place key.now (Some page.now)) }
 {
     match find_in(page, key) {
-        Ok(Some(cell)) => Ok(Lookup::Found(cell)),
-        Ok(None) => Ok(Lookup::Absent),
-        Err(BlockFault::Damaged) => Ok(Lookup::Need(place)),
+        Ok(Some(cell)) => Ok(Some(Lookup::of(cell))),
+        Ok(None) => Ok(None),
+        Err(BlockFault::Damaged) => Ok(Some(Lookup::Need(place))),
         Err(BlockFault::Memory) => Err(AllocError),
     }
 }
 
-/// What one index says of the key.
-fn in_index<P: Pages>(pages: &P, index: &Index, key: &[u8]) -> Result<Lookup, AllocError>
+/// What one index says of the key, if its page has the key or is wanted.
+fn in_index<P: Pages>(pages: &P, index: &Index, key: &[u8]) -> Result<Option<Lookup>, AllocError>
     requires { IsIndex index.now }
     ensures { IfOk result (λ found. found ≡ specs.looked_in (P.source pages.now) index.now key.now) }
 {
     let Some(place) = page_for(&index.pages.items, key) else {
-        return Ok(Lookup::Absent);
+        return Ok(None);
     };
     match pages.page(&place) {
-        None => Ok(Lookup::Need(place)),
+        None => Ok(Some(Lookup::Need(place))),
         Some(page) => in_page(place, page, key),
     }
 }
 
-/// What the indexes say of the key, the newest first, each within its keys alone: the cell of the first that has the key, which
-/// may say that it was deleted; or the place of a page that is not at hand, and that has to be seen first. Bytes that spell no
-/// page are not that page's. One page of an index is looked into, which is found by halves.
+/// What the indexes say of the key, the newest first, each within its keys alone: the cell of the first that has the key, or that
+/// there is none, also where that one says that the key was deleted; or the place of a page that is not at hand, and that has to be
+/// seen first. Bytes that spell no page are not that page's. One page of an index is looked into, which is found by halves.
 ///
 /// An error is out of memory (22), and says nothing of the key. That each index is one is the caller's condition.
 pub fn lookup<P: Pages>(
@@ -69,9 +69,8 @@ pub fn lookup<P: Pages>(
 {
     for one in installed {
         if one.keys.contains(key) {
-            let found = in_index(pages, &one.index, key)?;
-            if !matches!(&found, Lookup::Absent) {
-                return Ok(found);
+            if let Some(answer) = in_index(pages, &one.index, key)? {
+                return Ok(answer);
             }
         }
     }

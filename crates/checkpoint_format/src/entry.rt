@@ -13,7 +13,7 @@ ghost use Rattle.checkpoint_format.specs.Walk.{part_cell, part_entry, count_at};
 ghost use Rattle.checkpoint_format.specs.Walk as specs;
 
 use block_types::{BlockFault, MAX_BLOCK};
-use blocks::reader::{bytes_of, u8_at, u16_at, u32_at, u64_at};
+use blocks::reader::{bytes_of, u16_at, u32_at, u64_at};
 use blocks::writer::{put_bytes, put_u8, put_u16, put_u32, put_u64};
 use memtable::{Cell, MAX_INLINE, MAX_KEY, MAX_VALUE, Place};
 use std::alloc::AllocError;

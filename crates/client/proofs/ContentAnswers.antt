@@ -21,7 +21,6 @@ use Rattle.wire.specs.declared.body.Body.TheVariants as bodies
 use Rattle.client.specs.declared.job.Job.{Job}
 use Rattle.client.specs.declared.job.Job.TheVariants.{Sent, Closing, Growing, Checking, Shutting, Reading}
 use Rattle.client.specs.declared.job.News.{News}
-use Rattle.client.specs.declared.job.News.TheVariants as news
 use Rattle.client.specs.Client.{ClientState, Outcome, awaits, waits, fenced_if, refused_job, appended_job, checked_job, sealed_job, groups_job, extended_job, if_awaited, append_reply, check_reply, seal_reply, read_reply, stream_reply, reply_rule, reading_of, groups_content, content_of, content_told}
 
 abbrev Silent : Outcome → Type 0

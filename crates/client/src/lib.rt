@@ -15,7 +15,6 @@ mod job;
 mod known;
 mod load;
 mod replies;
-mod requests;
 mod sending;
 
 pub use appending::Appending;

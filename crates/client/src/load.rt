@@ -4,7 +4,6 @@ ghost use Rattle.client.specs.Load.{opening, open_packet, confirm_packet, is_ope
 ghost use Rattle.client.specs.declared.load.LoadPhase.TheVariants as phases;
 
 use crate::client::StreamClient;
-use crate::requests::is_same;
 use crate::sending::sent;
 use std::marker::Model;
 use wire::{
@@ -60,8 +59,8 @@ pub(crate) fn load_awaits(phase: &LoadPhase, answered: &ReqNo) -> bool
     ensures { result ≡ load_awaits phase.now answered.now }
 {
     match phase {
-        LoadPhase::Opening { request } => is_same(request, answered),
-        LoadPhase::Confirming { request } => is_same(request, answered),
+        LoadPhase::Opening { request } => request == answered,
+        LoadPhase::Confirming { request } => request == answered,
         _ => false,
     }
 }
@@ -82,7 +81,7 @@ fn opened(answered: &ReqNo, phase: &LoadPhase) -> LoadPhase
 {
     match phase {
         LoadPhase::Opening { request } => {
-            if is_same(request, answered) {
+            if request == answered {
                 LoadPhase::Opened
             } else {
                 *phase
@@ -97,7 +96,7 @@ fn confirmed(answered: &ReqNo, phase: &LoadPhase) -> LoadPhase
 {
     match phase {
         LoadPhase::Confirming { request } => {
-            if is_same(request, answered) {
+            if request == answered {
                 LoadPhase::Confirmed
             } else {
                 *phase
@@ -112,14 +111,14 @@ fn stale(answered: &ReqNo, phase: &LoadPhase) -> LoadPhase
 {
     match phase {
         LoadPhase::Opening { request } => {
-            if is_same(request, answered) {
+            if request == answered {
                 LoadPhase::Fenced
             } else {
                 *phase
             }
         }
         LoadPhase::Confirming { request } => {
-            if is_same(request, answered) {
+            if request == answered {
                 LoadPhase::Fenced
             } else {
                 *phase

@@ -5,7 +5,6 @@ ghost use Rattle.wire.specs.declared.refusal.Refusal.TheVariants as refusals;
 
 use crate::client::StreamClient;
 use crate::job::{Job, News, Reaction};
-use crate::requests::is_same;
 use crate::sending::sent_append;
 use block_types::Nodes;
 use std::alloc::{AllocError, Global};
@@ -20,12 +19,12 @@ pub(crate) fn awaits(job: Job, answered: &ReqNo) -> bool
 {
     match &job {
         Job::Idle => false,
-        Job::Sent { request, .. } => is_same(request, answered),
-        Job::Closing { request, .. } => is_same(request, answered),
-        Job::Growing { request, .. } => is_same(request, answered),
-        Job::Checking { request, .. } => is_same(request, answered),
-        Job::Shutting { request, .. } => is_same(request, answered),
-        Job::Reading { request, .. } => is_same(request, answered),
+        Job::Sent { request, .. } => request == answered,
+        Job::Closing { request, .. } => request == answered,
+        Job::Growing { request, .. } => request == answered,
+        Job::Checking { request, .. } => request == answered,
+        Job::Shutting { request, .. } => request == answered,
+        Job::Reading { request, .. } => request == answered,
     }
 }
 

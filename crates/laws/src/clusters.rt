@@ -14,7 +14,7 @@ ghost use Rattle.model_streams.specs.declared.event.Event.{Event};
 ghost use Rattle.model_partition.specs.declared.range_entry.RangeEntry.{RangeEntry};
 ghost use Rattle.model_partition.specs.Honest.{Honest};
 ghost use Rattle.model_partition.specs.Map.{range_at};
-ghost use Rattle.model_partition.specs.Past.{Bytes, first_range};
+ghost use Rattle.model_partition.specs.Past.{Bytes, first_range, keys_of};
 ghost use Rattle.model_partition.specs.Range.{RangeState};
 ghost use Rattle.model_histories.specs.ServedTables.{IsAtLine, ServesAt};
 ghost use Rattle.model_histories.specs.ServerRun.{log_name};
@@ -25,7 +25,7 @@ ghost use Rattle.model_partition.specs.Cluster.{AreUnmerged, Cluster, first_clus
 ghost use Rattle.laws_server_runs.specs.OwnKeys.{IsAtLineWithin};
 ghost use Rattle.laws_clusters.specs.Leases.{Lease, lease_in, KeepsTo};
 ghost use Rattle.laws_clusters.specs.Orders.{ComesOfStreams};
-ghost use Rattle.laws_clusters.specs.ServerEvents.{servers_of_run};
+ghost use Rattle.laws_clusters.specs.ServerEvents.{events_of_run, servers_of_run};
 ghost use Rattle.laws_servers.specs.Sending.{ByMoves, MaySendAll};
 
 /// A server sends nothing but what servers may ask of nodes and of the manager, and what no node takes. Of loaded tables it
@@ -55,9 +55,12 @@ pub fn runs_are_moves()
 /// acknowledged (`kept`). Where no two ranges are merged what is observed is honest, whatever ranges are split: each table that is shown is
 /// also that of a line of transactions, within the keys that the splits left to its range, and the line has every one that was
 /// acknowledged under a lower generation of the range or of one that it was split from, in order, each once (`honest`). There the servers
-/// are those that what comes to them makes, and the streams that they see keep their order (`ordered`), so that the laws of servers
-/// over any streams are laws of runs: the tables of a range that is served, its indexes among them, are within its keys the table of the
-/// line that ends at its log position, over any texts that have all that was observed of extents (`served`); those of the first range, which
+/// are those that what comes to them makes, and the streams that they see keep their order; the streams of a range that a split built of
+/// another's have of these what was done by then, and each append that they answer, by then or later, up to the generation that the split
+/// named, at its place and before all that was appended to them alone (`ordered`). So the laws of servers over any streams are laws of
+/// runs: a range that is served has the keys that the splits which were observed left to it, and its tables, its
+/// indexes among them, are within them the table of the line that ends at its log position, over any texts that have all that was
+/// observed of extents (`served`); those of the first range, which
 /// no split makes, are so for all keys (`served_first`).
 pub fn runs_are_honest()
     ensures agree { (nodes servers target batch : ℕ) (events : List Event) →
@@ -67,13 +70,14 @@ pub fn runs_are_honest()
     ensures honest { (nodes servers target batch : ℕ) (events : List Event) → AreUnmerged events →
         Honest (cluster_after_all (first_cluster nodes servers target batch) events).stream_layer.notes }
     ensures ordered { (nodes servers target batch : ℕ) (events : List Event) → AreUnmerged events →
-        ComesOfStreams (cluster_after_all (first_cluster nodes servers target batch) events) (servers_of_run nodes servers target batch events) }
+        ComesOfStreams (cluster_after_all (first_cluster nodes servers target batch) events) batch servers (events_of_run nodes servers target batch events) }
     ensures served { (nodes servers target batch : ℕ) (events : List Event) → AreUnmerged events →
         (texts : ℕ → Bytes) (s range : ℕ) (r : RangeState) →
         AllTellRightly texts (cluster_after_all (first_cluster nodes servers target batch) events).stream_layer.notes →
         ServesAt (servers_of_run nodes servers target batch events) s range r →
         (order : KeepsOrder ((servers_of_run nodes servers target batch events).story (log_name range))) →
-        IsAtLineWithin texts ((servers_of_run nodes servers target batch events).story (log_name range)) order.copies r }
+        IsAtLineWithin texts (keys_of (cluster_after_all (first_cluster nodes servers target batch) events).stream_layer.notes range)
+        ((servers_of_run nodes servers target batch events).story (log_name range)) order.copies r }
     ensures served_first { (nodes servers target batch : ℕ) (events : List Event) → AreUnmerged events →
         (texts : ℕ → Bytes) (s : ℕ) (r : RangeState) →
         AllTellRightly texts (cluster_after_all (first_cluster nodes servers target batch) events).stream_layer.notes →

@@ -7,7 +7,7 @@ ghost use Rattle.wire.specs.declared.rows.Row.{Row};
 ghost use Rattle.memtable.specs.declared.cell.Place.{Place};
 ghost use Rattle.commitlog.specs.Replay.{Numbered as Group};
 ghost use Rattle.model_histories.specs.StreamMachine.{after, Extended, In, IsRun, MachineStep};
-ghost use Rattle.model_partition.specs.Past.{Bytes, Transaction, Replays, table_notes, first_range};
+ghost use Rattle.model_partition.specs.Past.{Bytes, Transaction, Replays, table_notes, first_range, keys_of};
 ghost use Rattle.model_partition.specs.Range.{RangeState};
 ghost use Rattle.model_histories.specs.ServedTables.{AreFirst, AreSeenAs, AreUnborn, IsAtLine, ServesAt, StreamsInOrder};
 ghost use Rattle.model_histories.specs.ServerRun.{ServerEvent, log_name, run_of};
@@ -15,9 +15,13 @@ ghost use Rattle.model_histories.specs.Story.{KeepsOrder, EndsRise};
 ghost use Rattle.model_histories.specs.ServerTurns.{after_all, AreMoves, Growing, Move};
 ghost use Rattle.laws_tables.specs.Built.{KeepsSource};
 ghost use Rattle.laws_tables.specs.Ends.{StandsBehind};
-ghost use Rattle.laws_tables.specs.Families.{IsFamily};
+ghost use Rattle.laws_tables.specs.Families.{HasNoBirth, IsFamily};
 ghost use Rattle.laws_tables.specs.Layers.{Layer};
 ghost use Rattle.laws_tables.specs.Runs.{Beginning, ChainReplays, IsBeginning, IsChainRun, KeepsKeys, Run, ShowsLayers, first_beginning, log_of, meta_of, seen};
+ghost use Rattle.laws_server_runs.specs.Answerers.{MapBook, AreAnswered, AllAreShown};
+ghost use Rattle.laws_server_runs.specs.BornRanges.{AllInOrder};
+ghost use Rattle.laws_server_runs.specs.FamilyMembers.{of_servers};
+ghost use Rattle.laws_server_runs.specs.OwnKeys.{IsAtLineWithin};
 
 /// Each load of a range shows the table after every transaction whose append was answered under an earlier generation, in order,
 /// each once, where the streams of its log and of its metadata keep their order, loads of the log end in the order of their
@@ -42,15 +46,30 @@ pub fn tables_replay()
     ensures families { (layer_at : Place → Layer) (h : List Note) → IsFamily layer_at h → Replays h }
 {}
 
-/// Whatever comes to servers that merge no ranges, from whomever and however often, wherever they stop, start, give up, make checkpoints or split ranges, where
-/// the map gives the number of a range to neither of the two that a split makes, and its streams are built of no other's: if what they see of the metadata and the log of a range keeps its order, no generation is confirmed twice, loads of that log end in the order of
-/// their generations, and what reads were shown and appends were answered for keeps its bytes, then what they load replays, where the
-/// map assigns the first range alone (`law`). The tables of any range that is served, its indexes among them, are at any moment the
-/// table of the line that ends at its log position, whatever other ranges its server holds, also while it is split (`steps`), and whichever copies of the log
-/// each load is taken for (`served`). Nothing is said of who answers them: any streams, of any number of any machines, are allowed that
-/// keep their order.
+/// Whatever comes to servers that merge no ranges, from whomever and however often, wherever they stop, start, give up, make checkpoints or split
+/// ranges: where the map and the manager answer by their tables, what they see of the metadata and the log of each range keeps its order,
+/// no generation is confirmed twice, loads of a log end in the order of their generations, and what reads were shown and appends were
+/// answered for keeps its bytes, what is observed of servers and of the map replays, whatever ranges are split (`law`): each of which
+/// anything is observed is the first, or one that a split made which the map shows, and loads that it shares with the range that was
+/// split are loads of the same copies. Each range that is served, whatever split made it, then has the keys that the splits left to it,
+/// and its tables, its indexes among them, are at any moment within them the table of the line that ends at its log position
+/// (`children`).
+///
+/// Of one range alone less is premised. Where the map assigns only the first range, whose number it gives to neither of the two that a
+/// split makes, and whose streams are built of no other's, what servers load of it replays, whatever comes of other streams (`first`). The
+/// tables of any range of such a number are those of its line for all keys, whatever other ranges its server holds, also while
+/// it is split (`steps`), and whichever copies of the log each load is taken for (`served`). Nothing is said of who answers: any
+/// streams, of any number of any machines, are allowed that keep their order.
 pub fn servers_replay()
-    ensures law { (batch servers : ℕ) (texts : ℕ → Bytes) (events : List ServerEvent) (notes : List Note) → AreUnborn first_range events → AreFirst events →
+    ensures law { (batch servers : ℕ) (texts : ℕ → Bytes) (b : MapBook) (events : List ServerEvent) (notes : List Note) → AreAnswered b batch servers events →
+        (order : AllInOrder texts batch servers events) → AreSeenAs texts (run_of batch servers events).notes (of_servers notes) →
+        AreUnborn first_range events → HasNoBirth first_range notes → AllAreShown b texts batch servers events notes order → Replays notes }
+    ensures children { (batch servers : ℕ) (texts : ℕ → Bytes) (b : MapBook) (events : List ServerEvent) (notes : List Note) → AreAnswered b batch servers events →
+        (order : AllInOrder texts batch servers events) → AreSeenAs texts (run_of batch servers events).notes (of_servers notes) →
+        AreUnborn first_range events → HasNoBirth first_range notes → AllAreShown b texts batch servers events notes order →
+        (s range : ℕ) (r : RangeState) → ServesAt (run_of batch servers events) s range r → (log : KeepsOrder ((run_of batch servers events).story (log_name range))) →
+        IsAtLineWithin texts (keys_of notes range) ((run_of batch servers events).story (log_name range)) log.copies r }
+    ensures first { (batch servers : ℕ) (texts : ℕ → Bytes) (events : List ServerEvent) (notes : List Note) → AreUnborn first_range events → AreFirst events →
         StreamsInOrder texts first_range (run_of batch servers events) →
         AreSeenAs texts (run_of batch servers events).notes (table_notes notes) → Replays notes }
     ensures steps { (batch servers : ℕ) (texts : ℕ → Bytes) (events : List ServerEvent) (s range : ℕ) (r : RangeState) → AreUnborn range events →

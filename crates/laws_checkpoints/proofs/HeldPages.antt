@@ -15,7 +15,7 @@ use Rattle.checkpoint.specs.declared.page_lookup.Lookup.{Lookup as Indexed}
 use Rattle.checkpoint.specs.declared.page_lookup.Lookup.TheVariants.{Found, Absent, Need}
 use Rattle.checkpoint.specs.Lookup.{looked_up}
 use Rattle.checkpoint.specs.Pages.{AreFiled, IsIndexOf, cell_in}
-use Rattle.checkpoint.specs.Contents.{AreEntries, IsContentOf, AreContentsOf, IsAnswerFor}
+use Rattle.checkpoint.specs.Contents.{AreEntries, IsContentOf, AreContentsOf, IsAnswerFor, shown}
 use Rattle.checkpoint.proofs.Finding.{lookup_law}
 use Rattle.checkpoint.proofs.Orders.{and_true}
 use Rattle.model_partition.specs.Getting.{Held, held_at, or_needs, value_in as held_value, indexed_value, look, standing}
@@ -92,10 +92,16 @@ module _ (texts : ℕ → Bytes) where
 
     -- ---- answers
 
-    answer_known : (cell : Option Cell) (known : Option (Option Bytes)) (answer : Indexed) → known_of texts cell ≡ known → IsAnswerFor (held_at held) cell answer →
+    answer_known : (cell : Option Cell) (known : Option (Option Bytes)) (answer : Indexed) → known_of texts cell ≡ known → IsAnswerFor (held_at held) (shown cell) answer →
         IsIndexAnswer texts held known answer
-    answer_known cell known (Found other) e is = sym e ∙ ap (known_of texts) is
-    answer_known cell known Absent e is = sym e ∙ ap (known_of texts) is
+    answer_known None known (Found other) e is = absurd cc
+    answer_known (Some Deleted) known (Found other) e is = absurd cc
+    answer_known (Some (Inline value)) known (Found other) e is = sym e ∙ ap (known_of texts) is
+    answer_known (Some (Placed place)) known (Found other) e is = sym e ∙ ap (known_of texts) is
+    answer_known None known Absent e is = ap flat (sym e)
+    answer_known (Some Deleted) known Absent e is = ap flat (sym e)
+    answer_known (Some (Inline value)) known Absent e is = absurd cc
+    answer_known (Some (Placed place)) known Absent e is = absurd cc
     answer_known cell known (Need place) e is = is
 
     cell_answer : (cell : Cell) → IsAnswer texts held (value_in texts cell) (held_value held cell)
@@ -109,7 +115,7 @@ module _ (texts : ℕ → Bytes) where
 
     index_answer : (known : Option (Option Bytes)) (answer : Indexed) → IsIndexAnswer texts held known answer → IsAnswer texts held (flat known) (indexed_value held answer)
     index_answer known (Found cell) is = subst (λ k. IsAnswer texts held (flat k) (held_value held cell)) (sym is) (cell_answer cell)
-    index_answer known Absent is = sym (ap flat is)
+    index_answer known Absent is = sym is
     index_answer known (Need place) is = is
 
   -- ---- the laws

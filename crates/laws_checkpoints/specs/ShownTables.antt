@@ -109,10 +109,11 @@ module _ (texts : ℕ → Bytes) where
   abbrev pub HoldsBytes : Held → Type 0
   HoldsBytes held = AllByRecursion (λ x. x.1 ≡ bytes_in texts x.0) held
 
-  -- what a look-up in indexes may answer of a key of which this is known; a page that it wants is not held
+  -- what a look-up in indexes may answer of a key of which this is known: the cell of its value, or that it has none, also where it was
+  -- deleted; a page that it wants is not held
   abbrev pub IsIndexAnswer : Held → Option (Option Bytes) → Indexed → Type 0
   IsIndexAnswer held known (Found cell) = known ≡ Some (value_in texts cell)
-  IsIndexAnswer held known Absent = known ≡ None
+  IsIndexAnswer held known Absent = flat known ≡ None
   IsIndexAnswer held known (Need place) = held_at held place ≡ None
 
   -- what a Get may find of a key that has this value, or none; what it wants is not held

@@ -9,10 +9,11 @@ use Rattle.model_histories.specs.ServedTables.{StreamsInOrder}
 use Rattle.model_histories.specs.ServerRun.{ServerRun, ServerEvent, Takes, GivesUp, Checkpoints, Splits, Stops, Starts, Moment, Builds, run_of, after_event}
 use Rattle.laws_map.proofs.SplitFacts.{KnowsSplits, MayHold, event_knows, event_may, first_knows, asked_apart, first_of, split_there}
 use Rattle.laws_map.proofs.ManagerBirths.{IsIn}
+use Rattle.laws_server_runs.specs.BornRanges.{AllInOrder}
 use Rattle.laws_server_runs.specs.ChildInvariant.{AreBornSo}
 use Rattle.laws_server_runs.specs.Places.{TablesWithin, bytes_of}
 use Rattle.laws_server_runs.specs.Turns.{outcome_of}
-use Rattle.laws_server_runs.proofs.ChildTheorem.{AllInOrder, all_children, order_before}
+use Rattle.laws_server_runs.proofs.ChildTheorem.{all_children, order_before}
 use Rattle.laws_server_runs.proofs.LaidRuns.{all_laid}
 use Rattle.laws_server_runs.proofs.LoadedWithin.{BuildsFresh, nothing_fresh, StaysKept, all_within}
 use Rattle.laws_server_runs.proofs.RunSteps.{IsAny, IsAnyPair, any_assigned, any_numbered, event_step}

@@ -12,6 +12,7 @@ use Rattle.wire.specs.declared.body.StreamBody.TheVariants.{MultiModify}
 use Rattle.wire.specs.declared.packet.Packet.{Packet}
 use Rattle.wire.specs.declared.refusal.Refusal.{Refusal}
 use Rattle.wire.specs.declared.streams.Modify.{Modify}
+use Rattle.wire.specs.declared.streams.Source.{Source}
 use Rattle.wire.specs.declared.streams.StreamName.{StreamName}
 use Rattle.streams.specs.Streams.{Stream, Streams, stream_of, built}
 use Rattle.model_streams.specs.declared.event.Event.{Event}
@@ -24,8 +25,8 @@ use Rattle.model_partition.specs.declared.split_job.SplitJob.{SplitJob}
 use Rattle.model_partition.specs.Splits.{all_streams}
 use Rattle.model_partition.specs.Cluster.{Cluster, IsUnmerged, cluster_after}
 use Rattle.model_histories.specs.ServerRun.{ServerEvent, Takes, GivesUp, Checkpoints, Splits, Stops, Starts, Moment, Builds}
-use Rattle.laws_streams.proofs.BuildTests.{BuildsAll, built_keeps, builds_of}
-use Rattle.laws_streams.proofs.Choices.{contains_get}
+use Rattle.laws_streams.proofs.BuildTests.{Joins, BuildsAll, built_keeps, builds_of}
+use Rattle.laws_streams.proofs.Choices.{Each as EachOf, each-contains, contains_get}
 use Rattle.laws_map.proofs.Knowing.{each_has}
 use Rattle.laws_map.proofs.PostStays.{stays_in_post}
 use Rattle.laws_map.proofs.StagesStand.{AsksBuild}
@@ -48,6 +49,8 @@ pub record TakesList (c : Cluster) (event : Event) : Type 0 where
   pub is : server_events c event ≡ Builds job.range job.high ∷ Builds job.range job.low ∷ []
   pub absent : (m : Modify) → Contains (all_streams job) m → stream_of c.stream_layer.catalog.stream m.stream ≡ None
   pub there : (m : Modify) → Contains (all_streams job) m → IsIn (cluster_after c event).stream_layer.catalog.stream m.stream
+  -- the fence of each source is the generation that is named with it
+  pub fenced : (m : Modify) → Contains (all_streams job) m → (source : Source) → Contains m.sources source → (x : Stream) → stream_of c.stream_layer.catalog.stream source.stream ≡ Some x → x.fence ≡ source.generation
 
 -- a packet that comes to a server was sent to it
 abbrev pub IsSent : List Packet → ServerEvent → Type 0
@@ -68,6 +71,15 @@ member_absent sealed (n ∷ list) ss all m (suc i, less, is) = by (stream_of ss 
     by : (o : Option Stream) → stream_of ss m.stream ≡ o → stream_of (built ss n) m.stream ≡ None → o ≡ None
     by None e later = refl
     by (Some x) e later = absurd (let z : None ≡ Some x = sym later ∙ built_keeps sealed ss n all.0 m.stream x e in cc)
+
+member_fenced : (sealed : ℕ → Option ℕ) (list : List Modify) (ss : Streams) → BuildsAll sealed ss list → (m : Modify) → Contains list m → (source : Source) → Contains m.sources source → (x : Stream) → stream_of ss source.stream ≡ Some x → x.fence ≡ source.generation
+member_fenced sealed [] ss all m (i, less, is) source among x there = absurd (omega (arith, less))
+member_fenced sealed (n ∷ list) ss all m (zero, less, is) source among x there =
+    let j : Joins sealed ss source = each-contains (Joins sealed ss) m.sources source (subst (λ (y : Modify). EachOf (Joins sealed ss) y.sources) is all.0.sources) among in
+    let same : Some x ≡ Some j.stream = sym there ∙ j.there in
+    let one : x ≡ j.stream = cc in
+    ap (λ (y : Stream). y.fence) one ∙ j.fence
+member_fenced sealed (n ∷ list) ss all m (suc i, less, is) source among x there = member_fenced sealed list (built ss n) all.1 m (i, omega (arith, less), is) source among x (built_keeps sealed ss n all.0 source.stream x there)
 
 none_of : (o : Option Refusal) → is_none o ≡ true → o ≡ None
 none_of None t = refl
@@ -90,6 +102,7 @@ module _ (c : Cluster) (k : KnowsSplits c) where
         job = job;
         asks = asks;
         is = ap (delivery_events c) at ∙ ap (λ a. packet_events c a p) to ∙ ap (λ b. built_events (built_by w p b)) body ∙ ap (λ t. built_events (if t then list else [])) takes ∙ ap built_events is;
+        fenced = λ m among. member_fenced (sealed_lengths w.catalog) list w.catalog.stream (builds_of w.catalog p list free).1 m (subst (λ l. Contains l m) (sym is) among);
         absent = λ m among. member_absent (sealed_lengths w.catalog) list w.catalog.stream (builds_of w.catalog p list free).1 m (subst (λ l. Contains l m) (sym is) among);
         there = λ m among. taken_there c p list q body free number at to parts.0 (ap (λ o. not (stops_in w.manager_cell o) || stands_in w.manager_cell) (written_is p list q body free) ∙ (and_parts (is_none (modify_refusal w.catalog p list)) (is_written w.manager_cell (writes (records.MultiModify list))) parts.1).1) m (subst (λ l. Contains l m) (sym is) among);
       }

@@ -20,7 +20,7 @@ use Rattle.model_partition.specs.Cluster.{Cluster}
 use Rattle.model_partition.specs.declared.split_job.Side.{Side as SplitSide}
 use Rattle.model_partition.specs.declared.split_job.SplitJob.{SplitJob}
 use Rattle.model_partition.specs.Splits.{built_stream, all_streams, side_range}
-use Rattle.model_histories.specs.ServerRun.{ServerRun, ServerEvent, Builds, own_or, stream_named, log_name, after_event}
+use Rattle.model_histories.specs.ServerRun.{ServerRun, ServerEvent, Builds, own_or, stream_named, after_event}
 use Rattle.model_histories.specs.ServerRun as runs
 use Rattle.model_histories.specs.Story.{Story}
 use Rattle.model_histories.specs.ServerTurns.{after_all}
@@ -32,12 +32,12 @@ use Rattle.laws_streams.proofs.ListRules.{IsBuiltOf}
 use Rattle.laws_ranges.specs.Serves.{metadata_of, log_of}
 use Rattle.laws_clusters.specs.ServerEvents.{built_events}
 use Rattle.laws_clusters.proofs.BuildEvents.{built_in, Takes, BuildsNow}
-use Rattle.laws_clusters.proofs.Invariant.{SplitAt, IsMaking, Machines, IsToBe, IsStream, IsBeside, there_below, absent_to_be, here, Standing, Bases}
+use Rattle.laws_clusters.proofs.Invariant.{SplitAt, IsMaking, Machines, IsToBe, IsStream, IsBeside, AreBeside, there_below, absent_to_be, here, Standing, Bases}
 use Rattle.laws_clusters.proofs.RangeStreams.{HasStreams, IsOfSplit}
-use Rattle.laws_clusters.proofs.SharedLogs.{SharesLog, two_builds}
+use Rattle.laws_clusters.proofs.SharedLogs.{AreBuiltNow, two_builds}
 use Rattle.laws_clusters.proofs.SplitNews.{BuildsSide, BuildsOfSplits}
-use Rattle.laws_clusters.proofs.StreamFates.{event_stays, event_builds, nobody_asks, copy_below}
-use Rattle.laws_clusters.proofs.StreamLayerSteps.{IsBuiltRun, later, has_here, there_in, there_here, one, Unbuilt, gone_on, gone_beside, BuildsSides, BringsSides, next_machines, sides_share, event_machines, event_stands}
+use Rattle.laws_clusters.proofs.StreamFates.{event_stays, event_builds, nobody_asks, copy_closed, copy_below}
+use Rattle.laws_clusters.proofs.StreamLayerSteps.{IsBuiltRun, later, has_here, there_in, there_here, one, Unbuilt, gone_on, gone_beside, BuildsSides, BringsSides, copy_of, next_machines, sides_share, event_machines, event_stands}
 
 -- ---- the run of the servers
 
@@ -129,10 +129,10 @@ abbrev pub after_events : ServerRun → List ServerEvent → ServerRun
 after_events y [] = y
 after_events y (event ∷ earlier) = after_event (after_events y earlier) event
 
--- a range that is built has the log of its source as it stands then
+-- a range that is built has the streams of its source as they stand then
 abbrev pub NowShares : (generation : ℕ → ℕ) → ServerRun → (ℕ → Machines generation) → List ServerEvent → Type 0
 NowShares generation y machines events =
-    (late early : List ServerEvent) (source range : ℕ) → events ≡ late ++ Builds source range ∷ early → SharesLog generation machines source range ((after_events y early).story (log_name source))
+    (late early : List ServerEvent) (source range : ℕ) → events ≡ late ++ Builds source range ∷ early → AreBuiltNow generation machines source range (after_events y early)
 
 -- where nothing is built
 pub none_share : (generation : ℕ → ℕ) (y : ServerRun) (machines : ℕ → Machines generation) → NowShares generation y machines []
@@ -140,11 +140,11 @@ none_share generation y machines [] early source range e = absurd cc
 none_share generation y machines (event ∷ late) early source range e = absurd cc
 
 -- what is built changes nothing of its source
-source_stays : (y : ServerRun) (source range : ℕ) → (runs.built_streams source range y).story (log_name source) ≡ y.story (log_name source)
-source_stays y source range = go (source == range)
+source_stays : (y : ServerRun) (source range : ℕ) (kind : StreamKind) → (runs.built_streams source range y).story (stream_named source kind) ≡ y.story (stream_named source kind)
+source_stays y source range kind = go (source == range)
   where
-    go : (t : Bool) → (if t then own_or (y.story (log_name source)) (y.story (log_name source)) else y.story (log_name source)) ≡ y.story (log_name source)
-    go true = own_twice (y.story (log_name source))
+    go : (t : Bool) → (if t then own_or (y.story (stream_named source kind)) (y.story (stream_named source kind)) else y.story (stream_named source kind)) ≡ y.story (stream_named source kind)
+    go true = own_twice (y.story (stream_named source kind))
     go false = refl
 
 -- ---- the streams of a split
@@ -378,34 +378,58 @@ module _ (generation : ℕ → ℕ) (nodes target : ℕ) {base : Bases generatio
     abbrev sides_stand : Next (runs.built_streams job.range job.high half_built)
     sides_stand = event_stands generation nodes target c y x event (sides job) job.range builds_sides (runs.built_streams job.range job.high half_built) are_built brings_sides
 
-    -- the logs of both are that of the parent
+    -- the streams of both are those of the parent
     sides_shared : NowShares generation y sides_stand.machines (Builds job.range job.high ∷ Builds job.range job.low ∷ [])
     sides_shared =
-        two_builds (λ source range early. SharesLog generation sides_stand.machines source range ((after_events y early).story (log_name source))) job.range job.low job.high
-        (shared job.high (ap (λ t. (job.high == job.low) || t) (same_number job.high) ∙ or_true (job.high == job.low)) (half_built.story (log_name job.range)) (source_stays half_built job.range job.high))
-        (shared job.low (ap (λ t. t || (job.low == job.high)) (same_number job.low)) (y.story (log_name job.range)) (source_stays half_built job.range job.high ∙ source_stays y job.range job.low))
+        two_builds (λ source range early. AreBuiltNow generation sides_stand.machines source range (after_events y early)) job.range job.low job.high
+        (shared job.high (ap (λ t. (job.high == job.low) || t) (same_number job.high) ∙ or_true (job.high == job.low)) half_built (source_stays half_built job.range job.high))
+        (shared job.low (ap (λ t. t || (job.low == job.high)) (same_number job.low)) y (λ kind. source_stays half_built job.range job.high kind ∙ source_stays y job.range job.low kind))
       where
         machine_is : (j : ℕ) → sides_stand.machines j ≡ next_machines generation nodes target c y x event (sides job) job.range builds_sides (runs.built_streams job.range job.high half_built) are_built j
         machine_is j = event_machines generation nodes target c y x event (sides job) job.range builds_sides (runs.built_streams job.range job.high half_built) are_built brings_sides j
 
-        log_is : (j : ℕ) → sides job j ≡ true → (sides_stand.machines j).l ≡ (sides_stand.machines job.range).l
-        log_is j is =
-            ap (λ (m : Machines generation). m.l) (machine_is j)
-            ∙ sides_share generation nodes target c y x event (sides job) job.range builds_sides (runs.built_streams job.range job.high half_built) are_built parent_apart j is
-            ∙ sym (ap (λ (m : Machines generation). m.l) (machine_is job.range))
+        are_same : (j : ℕ) → sides job j ≡ true → ((sides_stand.machines j).m ≡ (sides_stand.machines job.range).m) × ((sides_stand.machines j).l ≡ (sides_stand.machines job.range).l)
+        are_same j is =
+            let both = sides_share generation nodes target c y x event (sides job) job.range builds_sides (runs.built_streams job.range job.high half_built) are_built parent_apart j is in (
+              ap (λ (m : Machines generation). m.m) (machine_is j) ∙ both.0 ∙ sym (ap (λ (m : Machines generation). m.m) (machine_is job.range)),
+              ap (λ (m : Machines generation). m.l) (machine_is j) ∙ both.1 ∙ sym (ap (λ (m : Machines generation). m.l) (machine_is job.range)),
+            )
 
-        shared : (j : ℕ) → sides job j ≡ true → (story : Story Group) → (runs.built_streams job.range job.high half_built).story (log_name job.range) ≡ story → SharesLog generation sides_stand.machines job.range j story
-        shared j is story same = record {
-          moves = (sides_stand.machines job.range).l;
-          source_grew = ([], refl);
-          range_grew = ([], log_is j is);
-          story_is = sym (sides_stand.stories.log_is job.range) ∙ same;
+        -- the parent has no open extent
+        closed_by : (kind : StreamKind) → (kind ≡ kinds.Metadata) ⊎ (kind ≡ kinds.Log) → (kind ≡ kinds.BlobData → ⊥) → (done : List (machine.Move Group generation)) (sent : List Sent) →
+            layer.Below generation (stream_named job.range kind) nodes target (later generation nodes target c y x event) (after_all Group generation done) sent → (after_all Group generation done).state.core.live ≡ None
+        closed_by kind of plain done sent below =
+            let side : sides job job.low ≡ true = ap (λ t. t || (job.low == job.high)) (same_number job.low) in
+            let (z, there) = now.there (entry kind of job.low side) (among kind of job.low side) in
+            let (s, was) = streams kind in
+            copy_closed generation nodes target x.moves event (one generation nodes target c y x event) (stream_named job.range kind) (stream_named job.low kind) plain done sent below
+            (takes.kept (stream_named job.range kind) s was ∙ sym was) z there (built_of kind of job.low side z there)
+
+        parent_is : sides_stand.machines job.range ≡ parent_machines
+        parent_is = machine_is job.range ∙ ap (λ (t : Bool). if t then copy_of generation nodes target c y x event job.range else gone_on generation nodes target c y x event job.range) parent_apart
+
+        gone : AreBeside generation nodes target (later generation nodes target c y x event) job.range parent_machines
+        gone = gone_beside generation nodes target c y x event job.range (unbuilt job.range parent_apart kinds.Metadata) (unbuilt job.range parent_apart kinds.Log)
+
+        shared : (j : ℕ) → sides job j ≡ true → (moment : ServerRun) → ((kind : StreamKind) → (runs.built_streams job.range job.high half_built).story (stream_named job.range kind) ≡ moment.story (stream_named job.range kind)) →
+            AreBuiltNow generation sides_stand.machines job.range j moment
+        shared j is moment same = record {
+          metadata = (are_same j is).0;
+          log = (are_same j is).1;
+          metadata_closed = subst (λ (u : Machines generation). (after_all Group generation u.m).state.core.live ≡ None) (sym parent_is)
+              (closed_by kinds.Metadata (inl refl) (λ k. cc) parent_machines.m parent_machines.m_sent
+              (there_below generation nodes target (later generation nodes target c y x event) (metadata_of job.range) parent_machines.m parent_machines.m_sent (gone.metadata counted) (parent_there kinds.Metadata)));
+          log_closed = subst (λ (u : Machines generation). (after_all Group generation u.l).state.core.live ≡ None) (sym parent_is)
+              (closed_by kinds.Log (inr refl) (λ k. cc) parent_machines.l parent_machines.l_sent
+              (there_below generation nodes target (later generation nodes target c y x event) (log_of job.range) parent_machines.l parent_machines.l_sent (gone.log counted) (parent_there kinds.Log)));
+          metadata_story = sym (sides_stand.stories.metadata_is job.range) ∙ same kinds.Metadata;
+          log_story = sym (sides_stand.stories.log_is job.range) ∙ same kinds.Log;
         }
 
   abbrev Told : List Modify → Type 0
   Told list = (stands : Next (after_events y (built_events list))) × NowShares generation y stands.machines (built_events list)
 
-  -- Whatever the event builds, servers are told of it, and it has the logs of what it was built of.
+  -- Whatever the event builds, servers are told of it, and it has the streams of what it was built of.
   pub builds_share : Told (built_in c.stream_layer event)
   builds_share = by_list (built_in w event) refl
     where

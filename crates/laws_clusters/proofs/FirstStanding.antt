@@ -38,9 +38,9 @@ none_apart : Apart [] []
 none_apart = record { here = λ q p e alone. absurd cc; there = λ q p e alone. absurd cc }
 
 module _ (nodes target batch count : ℕ) where
-  -- no log has grown at first
+  -- no stream has grown at first
   abbrev pub nothing : Bases generation_at
-  nothing = record { logs = λ range. []; midst = None }
+  nothing = record { metadata = λ range. []; logs = λ range. []; midst = None }
 
   abbrev empty : Machines generation_at
   empty = record { m = []; l = []; m_sent = []; l_sent = [] }
@@ -93,7 +93,7 @@ module _ (nodes target batch count : ℕ) where
     leads = refl;
     machines = λ range. empty;
     beside = empty_beside;
-    grows = λ range. ([], refl);
+    grows = λ range. (([], refl), ([], refl));
     distinct = λ one other apart q has. (refl, refl);
     past = λ range q has. absurd (empty_number q has);
     numbers = λ server to body there. absurd (let l = there.1 in omega (arith, l));

@@ -136,11 +136,16 @@ module _ (generation : ℕ → ℕ) where
     pub m_sent : List Sent
     pub l_sent : List Sent
 
-  -- What the machine of each log has grown from; and the range at a server, if there is one, whose split is in the midst of a step, so that
-  -- nothing is said yet of the metadata of the two that it makes.
+  -- What the machines of each metadata and of each log have grown from; and the range at a server, if there is one, whose split is in the midst
+  -- of a step, so that nothing is said yet of the metadata of the two that it makes.
   pub record Bases : Type 0 where
+    pub metadata : ℕ → List (machine.Move Group generation)
     pub logs : ℕ → List (machine.Move Group generation)
     pub midst : Option (ℕ × ℕ)
+
+  -- the machines of a range have grown from these
+  abbrev pub HaveGrown : Bases → ℕ → Machines → Type 0
+  HaveGrown base range x = GrewFrom (base.metadata range) x.m × GrewFrom (base.logs range) x.l
 
   -- the split of a range at a server is in the midst of no step
   abbrev pub IsFirm : Bases → ℕ → ℕ → Type 0
@@ -266,14 +271,14 @@ module _ (generation : ℕ → ℕ) (nodes target : ℕ) where
     pub splits_ascending : AreAscending st.splits
     pub split_held : (range : ℕ) (job : SplitJob) → split_of st.splits range ≡ Some job → (r : RangeState) × (range_of st.ranges range ≡ Some r)
 
-  -- all of a cluster, whose servers are those of a run, and whose logs have grown from a base
+  -- all of a cluster, whose servers are those of a run, and whose streams have grown from a base
   pub record Standing (base : Bases generation) (c : Cluster) (y : ServerRun) : Type 0 where
     pub moves : List Move
     pub leads : here moves ≡ c.stream_layer
     -- the machines of each range; a range that nobody has opened has those in which nothing has happened
     pub machines : ℕ → Machines generation
     pub beside : (range : ℕ) → AreBeside moves range (machines range)
-    pub grows : (range : ℕ) → GrewFrom (base.logs range) (machines range).l
+    pub grows : (range : ℕ) → HaveGrown generation base range (machines range)
     pub distinct : (one other : ℕ) → (one ≡ other → ⊥) → AreDistinct generation (machines one) (machines other)
     -- numbers that have a purpose were used, and so was each number that a server has asked under
     pub past : (range : ℕ) (q : ReqNo) → HasNumber generation (machines range) q → IsPast c.servers q
@@ -308,8 +313,8 @@ module _ (generation : ℕ → ℕ) (nodes target : ℕ) where
     pub acked : (range : ℕ) → AreObserved c.stream_layer.notes (y.answered range)
     pub told : (texts : ℕ → Bytes) → AllTellRightly texts c.stream_layer.notes → AreSeenAs texts y.notes (server_notes c.stream_layer.notes)
 
-  -- it stands over another base too, which its logs have grown from as well, and whose splits stand
-  abbrev pub over_base : {base : Bases generation} (c : Cluster) (y : ServerRun) (x : Standing base c y) (other : Bases generation) → ((range : ℕ) → GrewFrom (other.logs range) (x.machines range).l) →
+  -- it stands over another base too, which its streams have grown from as well, and whose splits stand
+  abbrev pub over_base : {base : Bases generation} (c : Cluster) (y : ServerRun) (x : Standing base c y) (other : Bases generation) → ((range : ℕ) → HaveGrown generation other range (x.machines range)) →
       ((s range : ℕ) (r : RangeState) (job : SplitJob) → HeldAt c.servers s range r → SplitAt c.servers s range job → IsFirm generation other s range → (i : ℕ) → x.incarnation s range ≡ Some i →
       KeysStand x.moves x.machines (y.history s) i r job job.phase) → Standing other c y
   over_base c y x other grows keys = record {

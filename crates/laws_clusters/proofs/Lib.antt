@@ -7,6 +7,14 @@ pub mod Copies
 pub mod Generations
 pub mod GrownLists
 pub mod LoadedOnce
+pub mod AskedBuilds
+pub mod PausedStreams
+pub mod BuiltParts
+pub mod RestingIncarnations
+pub mod KnownExtents
+pub mod SourceExtents
+pub mod SourceParts
+pub mod WorkedParts
 pub mod SharedLogs
 pub mod ShownBytes
 pub mod ServerNotes

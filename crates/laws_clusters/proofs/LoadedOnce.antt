@@ -14,7 +14,8 @@ use Rattle.laws_clusters.proofs.LayerSteps.{layer_same}
 module _ (generation : ℕ → ℕ) where
   -- ---- where incarnations stand
 
-  abbrev IsUp : Phase Group → Type 0
+  -- it is served
+  abbrev pub IsUp : Phase Group → Type 0
   IsUp (Serving n live) = Unit {0}
   IsUp (Sent n append group) = Unit {0}
   IsUp (Closing n append group) = Unit {0}
@@ -270,6 +271,15 @@ module _ (generation : ℕ → ℕ) where
   holds (Above i turn ∷ earlier) ok =
       let w : Whole Group generation = after_all Group generation earlier in
       turn_holds w.state w.phase i (holds earlier ok.1) (opens_once earlier ok.1) (w.phase i) turn refl ok.0
+
+  -- no two incarnations of one generation are served
+  pub up_once : (moves : List (Move Group generation)) → AreMoves Group generation moves → (i j : ℕ) → IsUp ((after_all Group generation moves).phase i) → IsUp ((after_all Group generation moves).phase j) → generation i ≡ generation j → i ≡ j
+  up_once moves ok i j one two same =
+      let w : Whole Group generation = after_all Group generation moves in
+      let h : Holds w.state w.phase = holds moves ok in
+      let a : IsOpened w.state i = was_opened w.state i (w.phase i) one (h.opened i) in
+      let b : IsOpened w.state j = was_opened w.state j (w.phase j) two (h.opened j) in
+      opens_once moves ok i j a.0 b.0 a.1 b.1 same
 
   pub loads_once : (moves : List (Move Group generation)) → AreMoves Group generation moves → LoadsOnce (after_all Group generation moves).state.story
   loads_once moves ok = (holds moves ok).once

@@ -16,7 +16,7 @@ use Rattle.laws_clusters.proofs.SplitPackets.{actions_outcome}
 
 -- the split of that range at that server is in the midst of a step
 abbrev pub in_midst : (generation : ℕ → ℕ) → Bases generation → ℕ → ℕ → Bases generation
-in_midst generation base s range = record { logs = base.logs; midst = Some (s, range) }
+in_midst generation base s range = record { metadata = base.metadata; logs = base.logs; midst = Some (s, range) }
 
 no_value : {A : Type 0} → (o : Option A) (a : A) → o ≡ None → o ≡ Some a → ⊥
 no_value {A} o a none some = let z : None ≡ Some a = sym none ∙ some in cc

@@ -53,13 +53,13 @@ use Rattle.laws_server_runs.specs.Places.{bytes_of}
 use Rattle.laws_clusters.proofs.StepKeys.{keys_after}
 use Rattle.laws_clusters.proofs.BlobRequests.{blob_aside}
 use Rattle.laws_clusters.proofs.StepServers as left
-use Rattle.laws_clusters.proofs.Invariant.{IsMaking, ExtendNoBlobs, IsFirm, KeysStand, SeesAll, IsOther, HeldAt, SplitAt, Waiter, OfRows, OfSeal, OfCall, Waits, IsOfExtents, AskedBy, IsSplitAsk, Machines, HasNumber, HasNone, AllOut, AreDistinct, IsIdle, IsBeside, AreBeside, here, m_side, l_side, Holds, IsHeld, Runs, Standing, Bases}
+use Rattle.laws_clusters.proofs.Invariant.{IsMaking, ExtendNoBlobs, IsFirm, KeysStand, SeesAll, IsOther, HeldAt, SplitAt, Waiter, OfRows, OfSeal, OfCall, Waits, IsOfExtents, AskedBy, IsSplitAsk, Machines, HasNumber, HasNone, AllOut, AreDistinct, IsIdle, IsBeside, AreBeside, here, m_side, l_side, Holds, IsHeld, Runs, Standing, Bases, HaveGrown}
 use Rattle.laws_clusters.proofs.ObservedBytes.{AreObserved, observed_on, observed_both, before_tells, seen_all}
 use Rattle.laws_clusters.proofs.MapWords.{IsFounded, IsWord}
 use Rattle.laws_clusters.proofs.OtherRanges.{noted_keeps, onward_same, holds_on, held_on, own_holds}
 use Rattle.laws_clusters.proofs.RangeActions.{actions_aside, actions_say}
 use Rattle.laws_clusters.proofs.Copies.{AllSay}
-use Rattle.laws_clusters.proofs.GrownLists.{GrewFrom, grew_on}
+use Rattle.laws_clusters.proofs.GrownLists.{grew_on}
 use Rattle.laws_clusters.proofs.RangeStreams.{HasStreams, catalog_stays, streams_stay, IsOfSplit, AreOfSplits, split_stays, AsksOthers, absent_on}
 use Rattle.laws_clusters.proofs.RowRules.{AsksIn}
 use Rattle.laws_clusters.proofs.ClientJobs.{AsksBy}
@@ -586,8 +586,9 @@ module _ (generation : ℕ → ℕ) (nodes target : ℕ) where
             append = began;
           })
 
-      all_grow : (j : ℕ) → GrewFrom (base.logs j) (next_machines j).l
-      all_grow = by_range (λ j u. GrewFrom (base.logs j) u.l) (grew_on (base.logs range) (moves_of generation i goes.log_turns) z.l (x.grows range)) (λ j apart. x.grows j)
+      all_grow : (j : ℕ) → HaveGrown generation base j (next_machines j)
+      all_grow = by_range (λ j u. HaveGrown generation base j u)
+          (grew_on (base.metadata range) (moves_of generation i goes.metadata_turns) z.m (x.grows range).0, grew_on (base.logs range) (moves_of generation i goes.log_turns) z.l (x.grows range).1) (λ j apart. x.grows j)
 
       other_here : (j : ℕ) → (j ≡ range → ⊥) → next_machines j ≡ x.machines j
       other_here j apart = ap (λ t. if t then new else x.machines j) (other_test j range apart)

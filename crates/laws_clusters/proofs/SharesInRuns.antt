@@ -22,14 +22,14 @@ use Rattle.laws_clusters.proofs.ClusterEvents.{run_events, EventOwes, comes_on}
 use Rattle.laws_clusters.proofs.Generations.{generation_at}
 use Rattle.laws_clusters.proofs.GrownLists.{GrewFrom}
 use Rattle.laws_clusters.proofs.Invariant.{Machines, Standing, Bases}
-use Rattle.laws_clusters.proofs.SharedLogs.{SharesLog, share_on, rebased}
+use Rattle.laws_clusters.proofs.SharedLogs.{SharesStreams, built_share, share_on, as_it_stands, rebased}
 use Rattle.laws_clusters.proofs.SplitNews.{BuildsOfSplits}
 use Rattle.laws_clusters.proofs.StreamOrders.{in_order, l_shared}
 
 -- ---- lists
 
 -- of two ends of a list one is an end of the other
-ends_of_one : {A : Type 0} (xs u ys v : List A) → xs ++ u ≡ ys ++ v → ((k : List A) × (u ≡ k ++ v)) ⊎ ((k : List A) × (v ≡ k ++ u))
+pub ends_of_one : {A : Type 0} (xs u ys v : List A) → xs ++ u ≡ ys ++ v → ((k : List A) × (u ≡ k ++ v)) ⊎ ((k : List A) × (v ≡ k ++ u))
 ends_of_one [] u ys v e = inl (ys, e)
 ends_of_one (x ∷ xs) u [] v e = inr (x ∷ xs, sym e)
 ends_of_one (x ∷ xs) u (y ∷ ys) v e = ends_of_one xs u ys v (let t : xs ++ u ≡ ys ++ v = cc in t)
@@ -138,32 +138,32 @@ module _ (nodes target batch count : ℕ) where
 
   -- ---- all that came
 
-  -- each range whose streams were built of another's has the log of that as it stood then
+  -- each range whose streams were built of another's has the streams of that as they stood then
   abbrev pub AllShare : (ℕ → Machines generation_at) → List ServerEvent → Type 0
   AllShare machines coming =
-      (late early : List ServerEvent) (source range : ℕ) → coming ≡ late ++ Builds source range ∷ early → SharesLog generation_at machines source range ((run early).story (log_name source))
+      (late early : List ServerEvent) (source range : ℕ) → coming ≡ late ++ Builds source range ∷ early → SharesStreams generation_at machines source range (run early)
 
-  share_more : (machines later : ℕ → Machines generation_at) → ((range : ℕ) → GrewFrom (machines range).l (later range).l) → (coming events : List ServerEvent) → AllShare machines coming → NowShares generation_at (run coming) later events →
+  share_more : (machines later : ℕ → Machines generation_at) → ((range : ℕ) → GrewFrom (machines range).m (later range).m × GrewFrom (machines range).l (later range).l) → (coming events : List ServerEvent) → AllShare machines coming → NowShares generation_at (run coming) later events →
       AllShare later (events ++ coming)
   share_more machines later grows coming events old now late early source range e = by (ends_of_one events coming late (Builds source range ∷ early) e)
     where
-      before : (k : List ServerEvent) → coming ≡ k ++ Builds source range ∷ early → SharesLog generation_at later source range ((run early).story (log_name source))
-      before k is = share_on generation_at machines later grows source range ((run early).story (log_name source)) (old k early source range is)
+      before : (k : List ServerEvent) → coming ≡ k ++ Builds source range ∷ early → SharesStreams generation_at later source range (run early)
+      before k is = share_on generation_at machines later grows source range (run early) (old k early source range is)
 
-      by : ((k : List ServerEvent) × (coming ≡ k ++ Builds source range ∷ early)) ⊎ ((k : List ServerEvent) × (Builds source range ∷ early ≡ k ++ coming)) → SharesLog generation_at later source range ((run early).story (log_name source))
+      by : ((k : List ServerEvent) × (coming ≡ k ++ Builds source range ∷ early)) ⊎ ((k : List ServerEvent) × (Builds source range ∷ early ≡ k ++ coming)) → SharesStreams generation_at later source range (run early)
       by (inl (k, is)) = before k is
       by (inr ([], is)) = before [] (sym is)
       by (inr (b ∷ k, is)) =
           let early_is : early ≡ k ++ coming = cc in
           let events_are : events ≡ late ++ Builds source range ∷ k =
           append_cancel_right events (late ++ Builds source range ∷ k) coming (e ∙ ap (λ z. late ++ Builds source range ∷ z) early_is ∙ sym (append_assoc late (Builds source range ∷ k) coming)) in
-          subst (λ (y : ServerRun). SharesLog generation_at later source range (y.story (log_name source))) (run_events batch count k coming ∙ ap run (sym early_is)) (now late k source range events_are)
+          subst (SharesStreams generation_at later source range) (run_events batch count k coming ∙ ap run (sym early_is)) (built_share generation_at later source range _ (now late k source range events_are))
 
   pub record StandsSharing (c : Cluster) (coming : List ServerEvent) : Type 0 where
     pub base : Bases generation_at
     pub stands : Standing generation_at nodes target base c (run coming)
     -- it has grown from itself so far
-    pub grown : (range : ℕ) → base.logs range ≡ (stands.machines range).l
+    pub grown : (range : ℕ) → (base.metadata range ≡ (stands.machines range).m) × (base.logs range ≡ (stands.machines range).l)
     -- and no split is in the midst of a step
     pub calm : base.midst ≡ None
     pub shares : AllShare stands.machines coming
@@ -171,14 +171,14 @@ module _ (nodes target batch count : ℕ) where
   -- what nothing came to shares nothing
   pub begun_sharing : {base : Bases generation_at} (c : Cluster) → base.midst ≡ None → Standing generation_at nodes target base c (run []) → StandsSharing c []
   begun_sharing {base} c calm x = record {
-    base = record { logs = λ range. (x.machines range).l; midst = base.midst };
+    base = as_it_stands generation_at x.machines base.midst;
     stands = rebased generation_at nodes target c (run []) x;
-    grown = λ range. refl;
+    grown = λ range. (refl, refl);
     calm = calm;
     shares = none;
   }
     where
-      none : (late early : List ServerEvent) (source range : ℕ) → [] ≡ late ++ Builds source range ∷ early → SharesLog generation_at x.machines source range ((run early).story (log_name source))
+      none : (late early : List ServerEvent) (source range : ℕ) → [] ≡ late ++ Builds source range ∷ early → SharesStreams generation_at x.machines source range (run early)
       none [] early source range e = absurd cc
       none (event ∷ late) early source range e = absurd cc
 
@@ -188,11 +188,32 @@ module _ (nodes target batch count : ℕ) where
   sharing_on c coming x event unmerged news owes =
       let next = comes_shared c coming x.stands event unmerged news owes in
       record {
-        base = record { logs = λ range. (next.0.machines range).l; midst = x.base.midst };
+        base = as_it_stands generation_at next.0.machines x.base.midst;
         stands = rebased generation_at nodes target (cluster_after c event) (run (server_events c event ++ coming)) next.0;
-        grown = λ range. refl;
+        grown = λ range. (refl, refl);
         calm = x.calm;
-        shares = share_more x.stands.machines next.0.machines (λ range. subst (λ l. GrewFrom l (next.0.machines range).l) (x.grown range) (next.0.grows range)) coming (server_events c event) x.shares next.1;
+        shares = share_more x.stands.machines next.0.machines (λ range. (
+          subst (λ l. GrewFrom l (next.0.machines range).m) (x.grown range).0 (next.0.grows range).0,
+          subst (λ l. GrewFrom l (next.0.machines range).l) (x.grown range).1 (next.0.grows range).1,
+        )) coming (server_events c event) x.shares next.1;
+      }
+
+  -- its machines have grown from those before, and what the event built has those of what it was built of
+  pub record HasGone (c : Cluster) (coming : List ServerEvent) (x : StandsSharing c coming) (event : Event) (next : StandsSharing (cluster_after c event) (server_events c event ++ coming)) : Type 0 where
+    pub grows : (range : ℕ) → GrewFrom (x.stands.machines range).m (next.stands.machines range).m × GrewFrom (x.stands.machines range).l (next.stands.machines range).l
+    pub now : NowShares generation_at (run coming) next.stands.machines (server_events c event)
+
+  pub sharing_gone : (c : Cluster) (coming : List ServerEvent) (x : StandsSharing c coming) (event : Event) (unmerged : IsUnmerged event) (news : BuildsOfSplits c event) (owes : EventOwes nodes target batch count c coming x.stands event) →
+      HasGone c coming x event (sharing_on c coming x event unmerged news owes)
+  unfolding sharing_on
+  sharing_gone c coming x event unmerged news owes =
+      let next = comes_shared c coming x.stands event unmerged news owes in
+      record {
+        grows = λ range. (
+          subst (λ l. GrewFrom l (next.0.machines range).m) (x.grown range).0 (next.0.grows range).0,
+          subst (λ l. GrewFrom l (next.0.machines range).l) (x.grown range).1 (next.0.grows range).1,
+        );
+        now = next.1;
       }
 
   -- ---- orders
@@ -207,8 +228,8 @@ module _ (nodes target batch count : ℕ) where
     pub loads_shared : (late early : List ServerEvent) (source range : ℕ) → coming ≡ late ++ Builds source range ∷ early → (l g start end : ℕ) (groups : List (Placed Group)) →
         event_at ((run early).story (log_name source)) l ≡ Some (Showed g start end groups) → (order range).log.copies l ≡ (order source).log.copies l
     loads_shared late early source range is l g start end groups at =
-        let s = x.shares late early source range is in
-        l_shared generation_at (run coming) x.stands.machines (λ r. (x.stands.beside r).m_are) (λ r. (x.stands.beside r).l_are) x.stands.stories source range s.moves s.source_grew.0 s.range_grew.0 s.source_grew.1 s.range_grew.1
+        let s = (x.shares late early source range is).log in
+        l_shared generation_at (run coming) x.stands.machines (λ r. (x.stands.beside r).m_are) (λ r. (x.stands.beside r).l_are) x.stands.stories source range s.moves s.source_grew.0 s.built_grew.0 s.source_grew.1 s.built_grew.1
         l g start end groups (subst (λ z. event_at z l ≡ Some (Showed g start end groups)) (sym s.story_is) at)
 
     -- so it is where the streams were built before what came until some moment

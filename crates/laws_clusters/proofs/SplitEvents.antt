@@ -28,7 +28,8 @@ use Rattle.laws_clusters.proofs.KeysOwed.{keys_again_stands, known_keys_owed}
 use Rattle.laws_clusters.proofs.MapWords.{Completes}
 use Rattle.laws_clusters.proofs.ServerPackets.{picked_cell, picked_cluster, picked_run, picked_stands, picked_at}
 use Rattle.laws_clusters.proofs.ServerRules.{IsLaid}
-use Rattle.laws_clusters.proofs.SharesInRuns.{StandsSharing, sharing_on}
+use Rattle.laws_clusters.proofs.BuiltParts.{StandParts, parts_on}
+use Rattle.laws_clusters.proofs.SharesInRuns.{StandsSharing, sharing_on, sharing_gone}
 use Rattle.laws_clusters.proofs.SideFacts.{known_builds}
 use Rattle.laws_clusters.proofs.SplitsInRuns.{known_counted, known_absent, answer_left, leaving_owed, splits_owed}
 
@@ -42,6 +43,8 @@ module _ (nodes target batch count : ℕ) where
     pub known : KnowsSplits c
     pub closed : HaveClosed c.servers
     pub blobs : BlobsSealed c.stream_layer
+    -- and the streams of each range that were built of another's have their part of these
+    pub parts : StandParts nodes target batch count c coming sharing known
 
   module _ (c : Cluster) (coming : List ServerEvent) (x : StandsSplitting c coming) where
     abbrev y : ServerRun
@@ -177,4 +180,5 @@ module _ (nodes target batch count : ℕ) where
             known = event_knows c event is x.known;
             closed = subst HaveClosed (sym next.stands.cells) (events_closed event);
             blobs = cluster_blobs nodes target stands.moves c event is stands.leads stands.extends stands.lists opens x.blobs;
+            parts = parts_on nodes target batch count c coming x.sharing x.known x.parts event is next (sharing_gone nodes target batch count c coming x.sharing event is (known_builds c x.known event) (event_owes event laid));
           }

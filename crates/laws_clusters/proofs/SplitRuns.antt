@@ -7,6 +7,7 @@ use Rattle.model_histories.specs.ServerRun.{ServerEvent, run_of}
 use Rattle.laws_map.proofs.SplitFacts.{first_knows}
 use Rattle.laws_clusters.specs.ServerEvents.{server_events, server_events_after}
 use Rattle.laws_clusters.proofs.BlobLists.{first_blobs}
+use Rattle.laws_clusters.proofs.BuiltParts.{first_parts}
 use Rattle.laws_clusters.proofs.BuiltSplits.{pushed, unmerged_pushed}
 use Rattle.laws_clusters.proofs.ClosedServers.{first_closed}
 use Rattle.laws_clusters.proofs.CompletedSplits.{run_completes}
@@ -31,7 +32,10 @@ module _ (nodes servers target batch : ℕ) where
   first = first_cluster nodes servers target batch
 
   first_splitting : Splitting first []
-  first_splitting = record { sharing = begun_sharing nodes target batch servers first refl (first_standing nodes target batch servers); known = first_knows nodes servers target batch; closed = first_closed batch servers; blobs = first_blobs nodes target }
+  first_splitting =
+      let sharing = begun_sharing nodes target batch servers first refl (first_standing nodes target batch servers) in
+      let known = first_knows nodes servers target batch in
+      record { sharing = sharing; known = known; closed = first_closed batch servers; blobs = first_blobs nodes target; parts = first_parts nodes target batch servers first refl sharing known }
 
   AllComplete : Cluster → Type 0
   AllComplete c = (p : Packet) → Contains c.stream_layer.post p → Completes c.stream_layer c.map p.body

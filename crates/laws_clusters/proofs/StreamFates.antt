@@ -122,6 +122,13 @@ module _ (generation : ℕ → ℕ) (nodes target : ℕ) (moves : List Move) (ev
     beside = absent_beside name done sent to_be;
   }
 
+  -- a stream of which another is built, and which stays as it is, has no open extent
+  pub copy_closed : (source name : StreamName) → source.kind ≢ BlobData → (done : List (machine.Move Group generation)) (sent : List Sent) → Below generation source nodes target later (after_all Group generation done) sent →
+      stream_of v.catalog.stream source ≡ stream_of w.catalog.stream source → (z : Stream) → stream_of v.catalog.stream name ≡ Some z → IsBuiltOf w.catalog source z →
+      (after_all Group generation done).state.core.live ≡ None
+  copy_closed source name plain done sent below kept z there of =
+      (built_stands generation source v (after_all Group generation done).state sent below.follows name w goes (listed_now generation source nodes target plain later (after_all Group generation done) sent below) kept z there of).closed
+
   -- a stream that is built of another, which stays as it is, begins with its machine
   pub copy_below : (source name : StreamName) → source.kind ≢ BlobData → (done : List (machine.Move Group generation)) (sent : List Sent) → Below generation source nodes target later (after_all Group generation done) sent →
       stream_of v.catalog.stream source ≡ stream_of w.catalog.stream source → (z : Stream) → stream_of v.catalog.stream name ≡ Some z → IsBuiltOf w.catalog source z → NobodyAsked name v →

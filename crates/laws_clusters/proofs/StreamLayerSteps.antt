@@ -45,7 +45,7 @@ use Rattle.laws_ranges.proofs.BuiltSides.{side_begins}
 use Rattle.laws_server_runs.specs.FamilyMembers.{of_servers}
 use Rattle.laws_clusters.proofs.Copies.{AllSay}
 use Rattle.laws_clusters.proofs.GrownLists.{GrewFrom, grew_on, grew_none}
-use Rattle.laws_clusters.proofs.Invariant.{HeldAt, SplitAt, IsMaking, SeesAll, IsOther, Machines, HasNumber, HasNone, OfRows, OfSeal, Out, AllOut, m_side, l_side, IsIdle, IsStream, AreBeside, there_below, here, IsHeld, KeysStand, Runs, Standing, Bases}
+use Rattle.laws_clusters.proofs.Invariant.{HeldAt, SplitAt, IsMaking, SeesAll, IsOther, Machines, HasNumber, HasNone, OfRows, OfSeal, Out, AllOut, m_side, l_side, IsIdle, IsStream, AreBeside, there_below, here, IsHeld, KeysStand, Runs, Standing, Bases, HaveGrown}
 use Rattle.laws_clusters.proofs.LayerSteps.{layer_same}
 use Rattle.laws_clusters.proofs.MapWords.{all_stay, word_stays}
 use Rattle.laws_clusters.proofs.ObservedBytes.{AreObserved, observed_on, tells_fewer}
@@ -156,9 +156,12 @@ module _ (generation : ℕ → ℕ) (nodes target : ℕ) where
       l_sent = (x.machines (suc n)).l_sent;
     }
 
-    gone_grows : (range : ℕ) → GrewFrom (base.logs range) (gone_on range).l
+    gone_grows : (range : ℕ) → HaveGrown generation base range (gone_on range)
     gone_grows zero = x.grows zero
-    gone_grows (suc n) = grew_on (base.logs (suc n)) (map (λ z. Below z) (hl n).steps) (l_at n) (x.grows (suc n))
+    gone_grows (suc n) = (
+      grew_on (base.metadata (suc n)) (map (λ z. Below z) (hm n).steps) (m_at n) (x.grows (suc n)).0,
+      grew_on (base.logs (suc n)) (map (λ z. Below z) (hl n).steps) (l_at n) (x.grows (suc n)).1,
+    )
 
     pub gone_beside : (range : ℕ) → Unbuilt (metadata_of range) → Unbuilt (log_of range) → AreBeside generation nodes target later range (gone_on range)
     gone_beside zero one_unbuilt two_unbuilt =
@@ -289,9 +292,12 @@ module _ (generation : ℕ → ℕ) (nodes target : ℕ) where
           (λ j is. gone_beside j (b.metadata_unbuilt j is) (b.log_unbuilt j is))
 
       -- what is built has grown from nothing
-      all_grow : (range : ℕ) → GrewFrom (base.logs range) (next_machines range).l
-      all_grow = by_side (λ j u. GrewFrom (base.logs j) u.l)
-          (λ j is. grew_none (base.logs j) (copy_of parent).l (subst (GrewFrom (base.logs j)) (b.none_done j is).1 (x.grows j)))
+      all_grow : (range : ℕ) → HaveGrown generation base range (next_machines range)
+      all_grow = by_side (λ j u. HaveGrown generation base j u)
+          (λ j is. (
+            grew_none (base.metadata j) (copy_of parent).m (subst (GrewFrom (base.metadata j)) (b.none_done j is).0 (x.grows j).0),
+            grew_none (base.logs j) (copy_of parent).l (subst (GrewFrom (base.logs j)) (b.none_done j is).1 (x.grows j).1),
+          ))
           (λ j is. gone_grows j)
 
       -- ---- numbers
@@ -479,10 +485,12 @@ module _ (generation : ℕ → ℕ) (nodes target : ℕ) where
         | inr built ↦ subst (λ ps. AreObserved c.stream_layer.notes ps) (sym built) (x.acked parent)
       ]
 
-      -- the log of a side is that of the parent
-      pub sides_share : sides parent ≡ false → (j : ℕ) → sides j ≡ true → (next_machines j).l ≡ (next_machines parent).l
-      sides_share none j is =
-          ap (λ (t : Bool). (if t then copy_of parent else gone_on j).l) is ∙ sym (ap (λ (t : Bool). (if t then copy_of parent else gone_on parent).l) none)
+      -- the metadata and the log of a side are those of the parent
+      pub sides_share : sides parent ≡ false → (j : ℕ) → sides j ≡ true → ((next_machines j).m ≡ (next_machines parent).m) × ((next_machines j).l ≡ (next_machines parent).l)
+      sides_share none j is = (
+        ap (λ (t : Bool). (if t then copy_of parent else gone_on j).m) is ∙ sym (ap (λ (t : Bool). (if t then copy_of parent else gone_on parent).m) none),
+        ap (λ (t : Bool). (if t then copy_of parent else gone_on j).l) is ∙ sym (ap (λ (t : Bool). (if t then copy_of parent else gone_on parent).l) none),
+      )
 
       -- an event of the stream layer
       pub event_stands : BringsSides sides parent → Standing generation nodes target base (record c { stream_layer = happens c.stream_layer event }) z

@@ -10,18 +10,19 @@ use Rattle.model_partition.specs.declared.split_job.SplitPhase.{SplitPhase}
 use Rattle.model_partition.specs.declared.split_job.SplitPhase.TheVariants as phases
 use Rattle.model_partition.specs.declared.split_job.Side.{Side}
 use Rattle.model_partition.specs.declared.split_job.Side.TheVariants.{Low, High}
-use Rattle.model_partition.specs.Past.{Bytes, Replays, first_range}
+use Rattle.model_partition.specs.Past.{Bytes, Replays, first_range, keys_of}
+use Rattle.model_partition.specs.Range.{RangeState}
 use Rattle.model_partition.specs.Splits.{side_range}
 use Rattle.model_partition.specs.Cluster.{Cluster, AreUnmerged, cluster_after_all, first_cluster}
 use Rattle.model_histories.specs.Log.{is_of, only}
-use Rattle.model_histories.specs.ServedTables.{AreSeenAs}
+use Rattle.model_histories.specs.ServedTables.{AreSeenAs, ServesAt}
 use Rattle.model_histories.specs.ServerRun.{ServerEvent, run_of}
 use Rattle.laws_tables.specs.Families.{IsChild, generation_of}
-use Rattle.laws_tables.proofs.Others.{with_others}
+use Rattle.laws_tables.proofs.Others.{keys_same, with_others}
 use Rattle.laws_map.specs.Stages.{stage_of}
+use Rattle.laws_server_runs.specs.BornRanges.{AllInOrder, IsToldOf, AreShared, AllAreBorn}
 use Rattle.laws_server_runs.specs.ChildInvariant.{HasPair, IsCompleting, ChildAt, AreBornSo}
-use Rattle.laws_server_runs.proofs.ChildTheorem.{AllInOrder}
-use Rattle.laws_server_runs.proofs.SplitsReplay.{IsToldOf, AreShared, AllAreBorn, splits_replay}
+use Rattle.laws_server_runs.proofs.SplitsReplay.{splits_replay, splits_keys}
 use Rattle.laws_clusters.specs.ServerEvents.{server_events_after}
 use Rattle.laws_clusters.proofs.EndedSplits.{IsEnded, run_ends}
 use Rattle.laws_clusters.proofs.FirstNumber.{run_unborn}
@@ -123,7 +124,7 @@ module _ (nodes servers target batch : ℕ) (events : List Event) (are : AreUnme
     ]
 
     -- So over streams that keep their order, where a load that stood when a split's streams were built is one of the same copies for both.
-    pub run_born : (order : AllInOrder texts batch servers coming) → ((p r : ℕ) (s : IsOfSplit p r) → AreShared texts batch servers h coming s.until order p r) → AllAreBorn texts batch servers h coming order
+    pub run_born : (order : AllInOrder texts batch servers coming) → ((p r : ℕ) (s : IsOfSplit p r) → AreShared texts batch servers coming s.until order p r) → AllAreBorn texts batch servers h coming order
     run_born order shared r = elim (run_ranges r) [
       | inl none ↦ inl none
       | inr origin ↦ inr (elim origin [
@@ -146,7 +147,14 @@ module _ (nodes servers target batch : ℕ) (events : List Event) (are : AreUnme
     -- THE TABLES OF A RUN WITH SPLITS REPLAY
     -- where its ranges are born as splits wait for them, its streams keep their order, and what servers showed is what is seen
     pub run_replays : (born : AreBornSo texts batch servers coming) (order : AllInOrder texts batch servers coming) → AreSeenAs texts (run_of batch servers coming).notes (server_notes c.stream_layer.notes) →
-        ((p r : ℕ) (s : IsOfSplit p r) → AreShared texts batch servers h coming s.until order p r) → Replays c.stream_layer.notes
+        ((p r : ℕ) (s : IsOfSplit p r) → AreShared texts batch servers coming s.until order p r) → Replays c.stream_layer.notes
     run_replays born order seen shared =
         with_others c.stream_layer.notes
         (splits_replay texts batch servers h coming born order seen (run_unborn nodes servers target batch events are) (run_first_unborn nodes servers target batch events) (run_born order shared))
+
+    -- and each range that is served has the keys that splits left to it
+    pub run_keys : (born : AreBornSo texts batch servers coming) (order : AllInOrder texts batch servers coming) → AreSeenAs texts (run_of batch servers coming).notes (server_notes c.stream_layer.notes) →
+        ((p r : ℕ) (s : IsOfSplit p r) → AreShared texts batch servers coming s.until order p r) → (s range : ℕ) (r : RangeState) → ServesAt (run_of batch servers coming) s range r → r.said.keys ≡ keys_of c.stream_layer.notes range
+    run_keys born order seen shared s range r at =
+        splits_keys texts batch servers h coming born order seen (run_unborn nodes servers target batch events are) (run_first_unborn nodes servers target batch events) (run_born order shared) s range r at
+        ∙ sym (keys_same c.stream_layer.notes range)

@@ -1,3 +1,4 @@
+pub mod BuiltOrders
 pub mod Leases
 pub mod Orders
 pub mod Senders

@@ -82,6 +82,10 @@ abbrev pub server_events_after : Cluster → List ServerEvent → List Event →
 server_events_after c before [] = before
 server_events_after c before (event ∷ events) = server_events_after (cluster_after c event) (server_events c event ++ before) events
 
--- what the servers of a run make of the packets that are delivered to them and of what they are told
+-- what comes to the servers of a run
+abbrev pub events_of_run : (nodes servers target batch : ℕ) → List Event → List ServerEvent
+events_of_run nodes servers target batch events = server_events_after (first_cluster nodes servers target batch) [] events
+
+-- what they make of the packets that are delivered to them and of what they are told
 abbrev pub servers_of_run : (nodes servers target batch : ℕ) → List Event → ServerRun
-servers_of_run nodes servers target batch events = run_of batch servers (server_events_after (first_cluster nodes servers target batch) [] events)
+servers_of_run nodes servers target batch events = run_of batch servers (events_of_run nodes servers target batch events)

@@ -24,8 +24,10 @@
 //! `KeysOwed`), whose server holds neither of the two by then (`SideFacts`); that what servers know of their blob streams, and what they
 //! are told of them, is closed (`ClosedServers`, `BlobLists`); that the streams of what takes the place of others at the map are there
 //! (`CompletedSplits`); and that the tables which are shown lie within what was read (`BareRanges`). So the cluster stands over every such
-//! run (`SplitEvents`, `SplitRuns`). The logs of ranges that were built of each other stay one for what both had then (`SharedLogs`,
-//! `SharesInRuns`). Each split that is shown was one of a server that waited for its end (`EndedSplits`), and streams are built as splits
+//! run (`SplitEvents`, `SplitRuns`). The metadata and the logs of ranges that were built of each other stay one for what both had then
+//! (`SharedLogs`, `SharesInRuns`). From the moment at which a server asks for the streams of a split's two ranges (`AskedBuilds`) nothing is out
+//! under the generation that it names, and nothing is begun under it (`PausedStreams`, `RestingIncarnations`), so these have all that their
+//! source ever answers up to that generation (`BuiltParts`, `SourceParts`). Each split that is shown was one of a server that waited for its end (`EndedSplits`), and streams are built as splits
 //! wait for them (`BornSo`, `UntoldRanges`). So what is told of a run without merges replays (`ToldRanges`, `SplitReplays`), and each
 //! range that is served is at its line within its own keys (`Theorem`).
 #![tactic(auto)]

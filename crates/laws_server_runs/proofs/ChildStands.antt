@@ -7,8 +7,9 @@ use Rattle.model_partition.specs.Range.{RangeState}
 use Rattle.model_partition.specs.Server.{range_of}
 use Rattle.model_partition.specs.Splits.{side_keys}
 use Rattle.model_histories.specs.ServerRun.{ServerEvent, run_of}
+use Rattle.laws_server_runs.specs.BornRanges.{AllInOrder}
 use Rattle.laws_server_runs.specs.ChildInvariant.{KeysStand, IsCompleting, ChildAt, AreBornSo}
-use Rattle.laws_server_runs.proofs.ChildTheorem.{AllInOrder, AreOther, all_children, keys_stand}
+use Rattle.laws_server_runs.proofs.ChildTheorem.{AreOther, all_children, keys_stand}
 use Rattle.laws_server_runs.proofs.SplitsBack.{ranges_there}
 
 module _ (texts : ℕ → Bytes) (batch servers : ℕ) (late early : List ServerEvent) (born : AreBornSo texts batch servers (late ++ early)) (order : AllInOrder texts batch servers (late ++ early)) where

@@ -22,6 +22,7 @@ use Rattle.model_histories.specs.Story.{KeepsOrder}
 use Rattle.laws_loads.specs.RangeView.{RangeView}
 use Rattle.laws_tables.specs.Families.{IsNamed}
 use Rattle.laws_tables.specs.Runs.{Run, first_beginning, seen, KeepsKeys}
+use Rattle.laws_server_runs.specs.BornRanges.{AllInOrder}
 use Rattle.laws_server_runs.specs.ChildInvariant.{SplitsHold, HasNothingOut, KeepsBehind, IsUnnamed, KeysStand, IsCompleting, ChildHolds, HasPair, IsBuilding, IsPaused, ChildAt, AreChildren, IsBuildOf, IsBuiltBy, MayBuild, BuildsSo, AreBornSo, ChildKept, ChildGoes, ChildFollows}
 use Rattle.laws_server_runs.specs.FamilyMembers.{IsMember, NamesOwn}
 use Rattle.laws_server_runs.specs.OwnKeys.{IsAtLineWithin}
@@ -242,22 +243,18 @@ module _ (texts : ℕ → Bytes) where
       subst (λ e. BuildsSo texts e x → (new : ChildKept texts (λ m. IsBuildOf m e ⊎ IsBuiltBy earlier m) n (after_event x e)) × ChildFollows texts e (IsBuiltBy earlier) (λ m. IsBuildOf m e ⊎ IsBuiltBy earlier m) n x (after_event x e) olds new) (sym build.2)
       (λ may. build_kept (IsBuiltBy earlier) x (splits_hold batch servers earlier) build.0 build.1 may olds n) born.1
 
-  -- what is premised of all streams
-  abbrev pub AllInOrder : (batch servers : ℕ) → List ServerEvent → Type 0
-  AllInOrder batch servers events = (n : ℕ) → StreamsInOrder texts n (run_of batch servers events)
-
   -- was so before the last event
-  pub order_before : (batch servers : ℕ) (event : ServerEvent) (earlier : List ServerEvent) → AllInOrder batch servers (event ∷ earlier) → AllInOrder batch servers earlier
+  pub order_before : (batch servers : ℕ) (event : ServerEvent) (earlier : List ServerEvent) → AllInOrder texts batch servers (event ∷ earlier) → AllInOrder texts batch servers earlier
   order_before batch servers event earlier order n = let x : ServerRun = run_of batch servers earlier in before texts n x (after_event x event) (event_longer x event) (order n)
 
   -- WHAT IS KEPT OF EACH RANGE
-  pub all_children : (batch servers : ℕ) (events : List ServerEvent) → AreBornSo texts batch servers events → AllInOrder batch servers events → (n : ℕ) → ChildKept texts (IsBuiltBy events) n (run_of batch servers events)
+  pub all_children : (batch servers : ℕ) (events : List ServerEvent) → AreBornSo texts batch servers events → AllInOrder texts batch servers events → (n : ℕ) → ChildKept texts (IsBuiltBy events) n (run_of batch servers events)
   all_children batch servers [] born order n = first_child batch servers n
   all_children batch servers (event ∷ earlier) born order n =
       (one_more batch servers event earlier born n (order n) (λ m. all_children batch servers earlier born.2 (order_before batch servers event earlier order) m) (event_kind event)).0
 
   -- goes on with what was kept before the last event, or begins with what its source had done by then
-  pub child_follows : (batch servers : ℕ) (event : ServerEvent) (earlier : List ServerEvent) (born : AreBornSo texts batch servers (event ∷ earlier)) (order : AllInOrder batch servers (event ∷ earlier)) (n : ℕ) →
+  pub child_follows : (batch servers : ℕ) (event : ServerEvent) (earlier : List ServerEvent) (born : AreBornSo texts batch servers (event ∷ earlier)) (order : AllInOrder texts batch servers (event ∷ earlier)) (n : ℕ) →
       More batch servers event earlier (λ m. all_children batch servers earlier born.2 (order_before batch servers event earlier order) m) n (all_children batch servers (event ∷ earlier) born order n)
   unfolding all_children
   child_follows batch servers event earlier born order n =
@@ -311,12 +308,12 @@ module _ (texts : ℕ → Bytes) where
   born_early batch servers [] early born = born
   born_early batch servers (event ∷ late) early born = born_early batch servers late early born.2
 
-  pub order_early : (batch servers : ℕ) (late early : List ServerEvent) → AllInOrder batch servers (late ++ early) → AllInOrder batch servers early
+  pub order_early : (batch servers : ℕ) (late early : List ServerEvent) → AllInOrder texts batch servers (late ++ early) → AllInOrder texts batch servers early
   order_early batch servers [] early order = order
   order_early batch servers (event ∷ late) early order = order_early batch servers late early (order_before batch servers event (late ++ early) order)
 
   -- what is kept at one moment goes on until another
-  pub children_go : (batch servers : ℕ) (late early : List ServerEvent) (born : AreBornSo texts batch servers (late ++ early)) (order : AllInOrder batch servers (late ++ early)) (n : ℕ) → AreOther n late →
+  pub children_go : (batch servers : ℕ) (late early : List ServerEvent) (born : AreBornSo texts batch servers (late ++ early)) (order : AllInOrder texts batch servers (late ++ early)) (n : ℕ) → AreOther n late →
       ChildGoes texts (IsBuiltBy early) (IsBuiltBy (late ++ early)) n (run_of batch servers early) (run_of batch servers (late ++ early)) (all_children batch servers early (born_early batch servers late early born) (order_early batch servers late early order) n)
       (all_children batch servers (late ++ early) born order n)
   unfolding born_early order_early
@@ -339,12 +336,12 @@ module _ (texts : ℕ → Bytes) where
       by one (inr (source, is, begins)) = absurd (other.0 (source, is))
 
   -- each range has its run, behind what its streams were built of
-  pub all_behind : (batch servers : ℕ) (events : List ServerEvent) → AreBornSo texts batch servers events → AllInOrder batch servers events → (n : ℕ) → (taken : Taken) × RunBehind texts n taken (run_of batch servers events)
+  pub all_behind : (batch servers : ℕ) (events : List ServerEvent) → AreBornSo texts batch servers events → AllInOrder texts batch servers events → (n : ℕ) → (taken : Taken) × RunBehind texts n taken (run_of batch servers events)
   all_behind batch servers events born order n = let k : ChildKept texts (IsBuiltBy events) n (run_of batch servers events) = all_children batch servers events born order n in (k.taken, k.kept)
 
   -- A RANGE THAT IS SERVED IS AT ITS LINE within its keys, whichever ranges splits make, and whichever copies belong to its loads by the order of its log
-  pub served_at_own_keys : (batch servers : ℕ) (events : List ServerEvent) → AreBornSo texts batch servers events → AllInOrder batch servers events → (s range : ℕ) (r : RangeState) → ServesAt (run_of batch servers events) s range r →
-      (log : KeepsOrder ((run_of batch servers events).story (log_name range))) → IsAtLineWithin texts ((run_of batch servers events).story (log_name range)) log.copies r
+  pub served_at_own_keys : (batch servers : ℕ) (events : List ServerEvent) → AreBornSo texts batch servers events → AllInOrder texts batch servers events → (s range : ℕ) (r : RangeState) → ServesAt (run_of batch servers events) s range r →
+      (log : KeepsOrder ((run_of batch servers events).story (log_name range))) → IsAtLineWithin texts r.said.keys ((run_of batch servers events).story (log_name range)) log.copies r
   served_at_own_keys batch servers events born order s range r at log =
       let x : ServerRun = run_of batch servers events in
       let c : ChildKept texts (IsBuiltBy events) range x = all_children batch servers events born order range in
@@ -357,7 +354,7 @@ module _ (texts : ℕ → Bytes) where
   -- ---- members of a family
 
   -- what was taken shows as many observations as are said of it
-  pub counted : (batch servers : ℕ) (events : List ServerEvent) (born : AreBornSo texts batch servers events) (order : AllInOrder batch servers events) (n : ℕ) →
+  pub counted : (batch servers : ℕ) (events : List ServerEvent) (born : AreBornSo texts batch servers events) (order : AllInOrder texts batch servers events) (n : ℕ) →
       length (all_children batch servers events born order n).taken.notes ≡ length (seen first_beginning (λ l. []) n (all_children batch servers events born order n).taken.run)
   unfolding all_children first_child
   counted batch servers [] born order n = refl
@@ -370,7 +367,7 @@ module _ (texts : ℕ → Bytes) where
       new = all_children batch servers (event ∷ earlier) born order n
 
   -- a range whose streams were never built took nothing
-  pub unbuilt_took : (batch servers : ℕ) (events : List ServerEvent) (born : AreBornSo texts batch servers events) (order : AllInOrder batch servers events) (n : ℕ) → (IsBuiltBy events n → ⊥) → (all_children batch servers events born order n).taken ≡ nothing_taken
+  pub unbuilt_took : (batch servers : ℕ) (events : List ServerEvent) (born : AreBornSo texts batch servers events) (order : AllInOrder texts batch servers events) (n : ℕ) → (IsBuiltBy events n → ⊥) → (all_children batch servers events born order n).taken ≡ nothing_taken
   unfolding all_children first_child
   unbuilt_took batch servers [] born order n never = refl
   unbuilt_took batch servers (event ∷ earlier) born order n never =
@@ -378,14 +375,14 @@ module _ (texts : ℕ → Bytes) where
       (λ go. go.1.taken ∙ unbuilt_took batch servers earlier born.2 (order_before batch servers event earlier order) n (λ built. never (inr built))) (λ begins. absurd (never (inl (begins.0, begins.1))))
       (child_follows batch servers event earlier born order n)
 
-  abbrev pub all_members : (batch servers : ℕ) (events : List ServerEvent) (born : AreBornSo texts batch servers events) (order : AllInOrder batch servers events) (n : ℕ) → IsMember texts (run_of batch servers events) n
+  abbrev pub all_members : (batch servers : ℕ) (events : List ServerEvent) (born : AreBornSo texts batch servers events) (order : AllInOrder texts batch servers events) (n : ℕ) → IsMember texts (run_of batch servers events) n
   all_members batch servers events born order n =
       let c : ChildKept texts (IsBuiltBy events) n (run_of batch servers events) = all_children batch servers events born order n in
       record { taken = c.taken; kept = c.kept; order = order n; count = counted batch servers events born order n }
 
   -- ---- a split that waits for its end
 
-  module _ (batch servers : ℕ) (late early : List ServerEvent) (born : AreBornSo texts batch servers (late ++ early)) (order : AllInOrder batch servers (late ++ early)) (s : ℕ) (cell : ServerCell) (st : ServerState)
+  module _ (batch servers : ℕ) (late early : List ServerEvent) (born : AreBornSo texts batch servers (late ++ early)) (order : AllInOrder texts batch servers (late ++ early)) (s : ℕ) (cell : ServerCell) (st : ServerState)
       (there : entry_at (run_of batch servers early).servers s ≡ Some cell) (up : cell.state ≡ Some st) (k : ℕ) (r : RangeState) (job : SplitJob) (held : range_of st.ranges k ≡ Some r) (split : split_of st.splits k ≡ Some job) (waits : IsCompleting job.phase)
       (child : Side) (other : AreOther (side_range job child) late) where
     abbrev range_kept : ChildKept texts (IsBuiltBy (late ++ early)) (side_range job child) (run_of batch servers (late ++ early))

@@ -1,7 +1,9 @@
--- A range that a split has closed under a generation, which was served before, stays closed whatever comes to servers: no server comes to
--- serve it under that anew, and no split that has paused it is lost while it stays.
+-- A range that was served under a generation, and is so marked wherever it is served under that, stays so marked whatever comes to servers,
+-- if its steps leave the mark: no server comes to serve it under that anew. So a range that a split has closed stays closed, for no split
+-- that has paused it is lost while it stays; and one that is split stays so, for its split is lost only with it.
 use Rattle.std.proofs.Common.{◌≡◌, ⊎_elim, ℕ, ◌-◌, List, [], ◌∷◌, ◌++◌, true, false, Option, Some, None, slice_set, refl, sym, ap, ◌∙◌, subst, inl, inr}
 use Rattle.std.proofs.lemmas.Bool.{cases_eq}
+use Rattle.client.specs.declared.load.LoadPhase.TheVariants as load_phases
 use Rattle.model_streams.specs.Maps.{entry_at}
 use Rattle.model_partition.specs.declared.split_job.SplitJob.{SplitJob}
 use Rattle.model_partition.specs.declared.table_note.TableNote.{TableNote}
@@ -14,7 +16,7 @@ use Rattle.model_histories.specs.StreamActions.{StreamAction}
 use Rattle.laws_loads.specs.RangeView.{view_after_all}
 use Rattle.laws_tables.specs.Runs.{Run, IsServing}
 use Rattle.laws_server_runs.specs.ChildInvariant.{SplitHoldsIf, SplitsHold}
-use Rattle.laws_server_runs.specs.ClosedRanges.{SplitPlan, IsPausedBy, IsClosed}
+use Rattle.laws_server_runs.specs.ClosedRanges.{SplitPlan, IsPausedBy, IsMarked, IsBusy, IsClosed}
 use Rattle.laws_server_runs.specs.Places.{RunLaid}
 use Rattle.laws_server_runs.specs.RangeInvariant.{InOrder, IsLonger, ServesAnew}
 use Rattle.laws_server_runs.specs.RunInvariant.{view_at, Taken, RunBehind, HeldIf, TurnKept}
@@ -23,6 +25,7 @@ use Rattle.laws_server_runs.proofs.Actions.{actions_here}
 use Rattle.laws_server_runs.proofs.Others.{streams_same, serving_on}
 use Rattle.laws_server_runs.proofs.PausedSplits.{PausedIf, step_paused}
 use Rattle.laws_server_runs.proofs.RunSteps.{IsAny, IsAnyPair}
+use Rattle.laws_server_runs.proofs.SplitStays.{StaysIf, RemainsIf, still_split, step_stays}
 use Rattle.laws_server_runs.proofs.SplitTurns.{step_turn}
 use Rattle.laws_server_runs.proofs.TurnChanges.{ChangesOne, opened_one, acted_one, found_after}
 
@@ -59,10 +62,14 @@ module _ (texts : ℕ → Bytes) (range g : ℕ) (taken : Taken) (x : ServerRun)
     turned_calmly r held o later step =
         turned r held [] o later step (record { log = order.log; metadata = order.metadata; once = order.once; ends = order.ends; shown = order.shown; answered = order.answered })
 
-  module _ (plan : SplitPlan) (splits : SplitsHold x.servers) (old : IsClosed plan range g x) where
+  -- by its split, wherever it is served under the generation
+  module _ (Marked : RangeState → Option SplitJob → Type 0)
+      (stays : (r : RangeState) → (is_serving r.stage ≡ true → r.load.phase ≡ load_phases.Confirmed) → (job : Option SplitJob) (actions : List StreamAction) (o : RangeOutcome) (later : Option SplitJob) → IsStep IsAnyPair r job actions o later →
+      SplitHoldsIf (Some r) job → Marked r job → (z : RangeState) → o.after ≡ Some z → Marked z later)
+      (splits : SplitsHold x.servers) (old : IsMarked Marked range g x) where
     -- at one server
     abbrev IsClosedAt : ServerState → Type 0
-    IsClosedAt q = (r : RangeState) → range_of q.ranges range ≡ Some r → is_serving r.stage ≡ true → r.load.generation ≡ g → IsPausedBy plan r (split_of q.splits range)
+    IsClosedAt q = (r : RangeState) → range_of q.ranges range ≡ Some r → is_serving r.stage ≡ true → r.load.generation ≡ g → Marked r (split_of q.splits range)
 
     pub closed_at : (t : ℕ) (c : ServerCell) (q : ServerState) → entry_at x.servers t ≡ Some c → c.state ≡ Some q → IsClosedAt q
     closed_at t c q there up r held serves same = old t r (record { cell = c; state = q; there = there; runs = up; held = held; serves = serves }) same
@@ -71,7 +78,7 @@ module _ (texts : ℕ → Bytes) (range g : ℕ) (taken : Taken) (x : ServerRun)
     AreClosed servers = (t : ℕ) (c : ServerCell) (q : ServerState) → entry_at servers t ≡ Some c → c.state ≡ Some q → IsClosedAt q
 
     closed_like : (st q : ServerState) → range_of q.ranges range ≡ range_of st.ranges range → split_of q.splits range ≡ split_of st.splits range → IsClosedAt st → IsClosedAt q
-    closed_like st q ranges same_splits was r held serves same = subst (IsPausedBy plan r) (sym same_splits) (was r (sym ranges ∙ held) serves same)
+    closed_like st q ranges same_splits was r held serves same = subst (Marked r) (sym same_splits) (was r (sym ranges ∙ held) serves same)
 
     held_so : (servers : List ServerCell) → HoldNoMore x.servers servers → AreClosed servers
     held_so servers like t c q there up r held serves same = elim (like t c q there up) [
@@ -98,9 +105,6 @@ module _ (texts : ℕ → Bytes) (range g : ℕ) (taken : Taken) (x : ServerRun)
         | inr other ↦ closed_at t c q other.1 up
       ]
 
-      paused_there : (after : Option RangeState) (later : Option SplitJob) (z : RangeState) → after ≡ Some z → PausedIf plan after later → IsPausedBy plan z later
-      paused_there after later z is_there p = subst (λ q. PausedIf plan q later) is_there p
-
       holds_if : (r : RangeState) → range_of st.ranges range ≡ Some r → (job : Option SplitJob) → split_of st.splits range ≡ job → SplitHoldsIf (Some r) job
       holds_if r held None split = tt
       holds_if r held (Some job) split = splits s cell st at is range r job held split
@@ -111,9 +115,8 @@ module _ (texts : ℕ → Bytes) (range g : ℕ) (taken : Taken) (x : ServerRun)
       closed_here r held actions o later step t next c z found serves same =
           let after : o.after ≡ Some z = sym c.range_here ∙ found in
           let was : (is_serving r.stage ≡ true) × (r.load.generation ≡ g) = served_before s r actions o later t z after serves same in
-          subst (IsPausedBy plan z) (sym c.split_here)
-          (paused_there o.after later z after
-          (step_paused plan r (laid.ranges s cell st at is range r held).confirmed IsAnyPair (split_of st.splits range) actions o later step (holds_if r held (split_of st.splits range) refl) (closed_at s cell st at is r held was.0 was.1)))
+          subst (Marked z) (sym c.split_here)
+          (stays r (laid.ranges s cell st at is range r held).confirmed (split_of st.splits range) actions o later step (holds_if r held (split_of st.splits range) refl) (closed_at s cell st at is r held was.0 was.1) z after)
 
       -- another does
       closed_beside : (other : ℕ) → (range ≡ other → ⊥) → (after : Option RangeState) (later : Option SplitJob) (next : ServerState) → ChangesOne st next other after later → IsClosedAt next
@@ -166,11 +169,25 @@ module _ (texts : ℕ → Bytes) (range g : ℕ) (taken : Taken) (x : ServerRun)
           (acts_closed other r held effect ro later is_effect next (acted_one st next (laid.ascending s cell st at is) (laid.splits s cell st at is) other r held ro.after later left left_splits)
           (record { after = next; packets = packets; notes = ro.notes }) now)
 
-    all_closed : (y : ServerRun) → AreClosed y.servers → IsClosed plan range g y
+    all_closed : (y : ServerRun) → AreClosed y.servers → IsMarked Marked range g y
     all_closed y are s r at same = are s at.cell at.state at.there at.runs r at.held at.serves same
 
-    -- A STEP OF ALL leaves it closed
-    pub closed_step : (notes : List TableNote) (y : ServerRun) → RunStep IsAny IsAnyPair x notes y → InOrder texts (view_at range y 0) → IsClosed plan range g y
-    closed_step notes y (Keeps servers packets like) now = all_closed y (held_so servers like)
-    closed_step notes y (Passes servers like) now = all_closed y (held_so servers like)
-    closed_step notes y (Turns s cell st at is e o turn) now = all_closed y (turn_closed s cell st at is e o turn now)
+    -- A STEP OF ALL leaves it so
+    pub marked_step : (notes : List TableNote) (y : ServerRun) → RunStep IsAny IsAnyPair x notes y → InOrder texts (view_at range y 0) → IsMarked Marked range g y
+    marked_step notes y (Keeps servers packets like) now = all_closed y (held_so servers like)
+    marked_step notes y (Passes servers like) now = all_closed y (held_so servers like)
+    marked_step notes y (Turns s cell st at is e o turn) now = all_closed y (turn_closed s cell st at is e o turn now)
+
+  -- one that a split has closed stays closed
+  pub closed_step : (plan : SplitPlan) → SplitsHold x.servers → IsClosed plan range g x → (notes : List TableNote) (y : ServerRun) → RunStep IsAny IsAnyPair x notes y → InOrder texts (view_at range y 0) → IsClosed plan range g y
+  closed_step plan =
+      marked_step (IsPausedBy plan)
+      (λ r confirmed job actions o later step holds paused z after. subst (λ q. PausedIf plan q later) after (step_paused plan r confirmed IsAnyPair job actions o later step holds paused))
+
+  -- one that is split stays so
+  pub busy_step : SplitsHold x.servers → IsMarked IsBusy range g x → (notes : List TableNote) (y : ServerRun) → RunStep IsAny IsAnyPair x notes y → InOrder texts (view_at range y 0) → IsMarked IsBusy range g y
+  busy_step = marked_step IsBusy (λ r confirmed job actions o later step holds busy z after. still_split o.after later z (remains job o.after later busy (step_stays IsAnyPair r job actions o later step)) after)
+    where
+      remains : (job : Option SplitJob) (after : Option RangeState) (later : Option SplitJob) → (split : SplitJob) × (job ≡ Some split) → RemainsIf job after later → StaysIf after later
+      remains None after later busy r = absurd (let e = busy.1 in cc)
+      remains (Some job) after later busy r = r

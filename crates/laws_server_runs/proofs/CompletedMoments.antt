@@ -7,6 +7,7 @@ use Rattle.model_partition.specs.Past.{Bytes}
 use Rattle.model_histories.specs.ServerRun.{ServerRun, ServerEvent, Builds, own_or, run_of, stream_named}
 use Rattle.model_histories.specs.Story.{Showed, event_at}
 use Rattle.laws_tables.specs.Runs.{log_of, IsServing}
+use Rattle.laws_server_runs.specs.BornRanges.{AllInOrder}
 use Rattle.laws_server_runs.specs.ChildInvariant.{IsCompleting, ChildAt, IsBuildOf, IsBuiltBy, AreBornSo}
 use Rattle.laws_server_runs.specs.RangeInvariant.{IsLonger}
 use Rattle.laws_server_runs.specs.RunInvariant.{Taken, nothing_taken}
@@ -14,7 +15,7 @@ use Rattle.laws_server_runs.specs.StoodRanges.{AsksBuild}
 use Rattle.laws_server_runs.specs.Turns.{IsOfServers}
 use Rattle.laws_server_runs.proofs.Actions.{same_test, event_longer}
 use Rattle.laws_server_runs.proofs.ChildStands.{child_stands}
-use Rattle.laws_server_runs.proofs.ChildTheorem.{AllInOrder, AreOther, all_children, born_early, order_early, unbuilt_took}
+use Rattle.laws_server_runs.proofs.ChildTheorem.{AreOther, all_children, born_early, order_early, unbuilt_took}
 use Rattle.laws_server_runs.proofs.Fronts.{longer_same, longer_twice}
 use Rattle.laws_server_runs.proofs.RunSteps.{IsBuild, event_kind}
 use Rattle.laws_server_runs.proofs.SplitsBack.{SplitThen, split_then}

@@ -18,11 +18,12 @@ use Rattle.model_histories.specs.ServerRun.{ServerRun, ServerEvent, Builds, log_
 use Rattle.model_histories.specs.Story.{Placed, Showed, event_at}
 use Rattle.laws_tables.specs.Families.{IsChild, IsNamed, generation_of}
 use Rattle.laws_tables.specs.Runs.{first_beginning, held, said}
+use Rattle.laws_server_runs.specs.BornRanges.{AllInOrder}
 use Rattle.laws_server_runs.specs.ChildInvariant.{IsCompleting, ChildAt, IsBuiltBy, AreBornSo, ChildKept}
 use Rattle.laws_server_runs.specs.FamilyMembers.{of_servers, IsMember, IsHalf, NamesOwn, CameOf}
 use Rattle.laws_server_runs.specs.StoodRanges.{plan_of, AsksBuild, StoodAt}
 use Rattle.laws_server_runs.proofs.ChildStands.{StandsNow, child_stands}
-use Rattle.laws_server_runs.proofs.ChildTheorem.{AllInOrder, AreOther, all_children, all_members, born_early, now_children}
+use Rattle.laws_server_runs.proofs.ChildTheorem.{AreOther, all_children, all_members, born_early, now_children}
 use Rattle.laws_server_runs.proofs.FamilyMembers.{only_of_servers}
 use Rattle.laws_server_runs.proofs.Fronts.{SeenBoth, seen_both}
 use Rattle.laws_server_runs.proofs.NamesBehind.{own_names}

@@ -7,11 +7,12 @@ use Rattle.model_histories.specs.ServedTables.{IsUnborn, AreUnborn}
 use Rattle.model_histories.specs.ServerRun.{ServerEvent, Builds, run_of, metadata_name}
 use Rattle.laws_tables.specs.Families.{HasNoBirth}
 use Rattle.laws_tables.specs.Runs.{KeepsKeys}
+use Rattle.laws_server_runs.specs.BornRanges.{AllInOrder}
 use Rattle.laws_server_runs.specs.ChildInvariant.{IsBuiltBy, AreBornSo, ChildKept}
 use Rattle.laws_server_runs.specs.FamilyMembers.{IsEldest}
 use Rattle.laws_server_runs.specs.RunInvariant.{Taken}
 use Rattle.laws_server_runs.proofs.Apart.{unborn_apart}
-use Rattle.laws_server_runs.proofs.ChildTheorem.{AllInOrder, all_children, all_members, unbuilt_took}
+use Rattle.laws_server_runs.proofs.ChildTheorem.{all_children, all_members, unbuilt_took}
 use Rattle.laws_server_runs.proofs.KeptKeys.{unnamed, keeps_keys}
 
 -- its streams are never built

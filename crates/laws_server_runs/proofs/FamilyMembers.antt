@@ -7,10 +7,12 @@ use Rattle.wire.specs.declared.note.Note.{Note}
 use Rattle.wire.specs.declared.note.Note.TheVariants.{Acked, SealedAt, Content, Seen, Began, Done, Loaded, Split, Merged}
 use Rattle.wire.specs.declared.rows.Row.{Row}
 use Rattle.metadata.specs.declared.record.KeyRange.{KeyRange}
-use Rattle.metadata.specs.Fold.{all_keys}
+use Rattle.metadata.specs.Fold.{MetadataState, all_keys}
 use Rattle.model_histories.specs.Log.{only}
 use Rattle.model_histories.specs.Renaming.{renamed, renamed_copy, decoded}
-use Rattle.model_histories.specs.ServedTables.{AreSeenAs}
+use Rattle.model_partition.specs.Range.{RangeState}
+use Rattle.model_partition.specs.Server.{split_of}
+use Rattle.model_histories.specs.ServedTables.{AreSeenAs, ServesAt}
 use Rattle.model_histories.specs.ServerRun.{ServerRun, log_name}
 use Rattle.model_histories.specs.Story.{Made, Showed, event_at, placed}
 use Rattle.model_histories.specs.StreamMachine.{In}
@@ -26,12 +28,14 @@ use Rattle.laws_tables.proofs.Members.{in_contains, contains_in, in_middle}
 use Rattle.laws_checkpoints.specs.IndexLayers.{layer_at}
 use Rattle.laws_loads.proofs.Renaming.{showed_from}
 use Rattle.laws_server_runs.specs.FamilyMembers.{of_servers, IsMember, IsEldest, IsHalf, CameOf, AllCame}
-use Rattle.laws_server_runs.specs.RunInvariant.{HasLoad}
+use Rattle.laws_server_runs.specs.RunInvariant.{view_at, with_stage, HeldKept, HasLoad}
 use Rattle.laws_server_runs.proofs.ConfirmedLoads.{has_behind}
 use Rattle.laws_server_runs.proofs.FamilyParents.{only_in, ShowsLoad, load_seen, own_parts, moment_told, moment_loaded, moment_answered}
 use Rattle.laws_server_runs.proofs.FamilyRanges.{seen_length, rows, own, log_order, family_range}
 use Rattle.laws_server_runs.proofs.HeldKeys.{held_keys}
 use Rattle.laws_server_runs.proofs.NamedKeys.{NamesThese, NamesBelow, own_these, own_below, own_no_other, kept_these, kept_below, these_behind, below_behind}
+use Rattle.laws_server_runs.proofs.ServedNotes.{serves_of}
+use Rattle.laws_server_runs.proofs.Steps.{kept_at}
 
 -- ---- observations of servers
 
@@ -309,3 +313,24 @@ module _ (texts : ℕ → Bytes) (x : ServerRun) (h : List Note) (seen_as : AreS
     -- WHAT IS TOLD OF ALL RANGES REPLAYS
     pub members_replay : Replays h
     members_replay = families_replay (layer_at texts) h family
+
+    -- A RANGE THAT IS SERVED HAS THE KEYS that were observed
+    pub served_keys : (s range : ℕ) (r : RangeState) → ServesAt x s range r → r.said.keys ≡ keys_of h range
+    served_keys s range r at = by (known_below (suc range) range (omega arith))
+      where
+        load : HasLoad r.load.generation (own_of range)
+        load = (member range).kept.loaded s r at
+
+        says : r.said ≡ said first_beginning (held first_beginning (member range).kept.run r.load.generation).records
+        says =
+            let k : HeldKept texts range (member range).kept.run (view_at range x s) r (split_of at.state.splits range) = kept_at texts range (member range).taken x (member range).kept s r at in
+            (serves_of texts range (member range).kept.run (with_stage (view_at range x s) k.split) r at.serves k.range).matches.said
+
+        by : (only range h ≡ []) ⊎ KnowsKeys range → r.said.keys ≡ keys_of h range
+        by (inl none) =
+            let t : (table : List Row) × (next : ℕ) × In (Loaded range r.load.generation table next) (only range h) = load_told range r.load.generation load in
+            absurd (subst (In (Loaded range r.load.generation t.0 t.1)) none t.2)
+        by (inr known) =
+            ap (λ (m : MetadataState). m.keys) says
+            ∙ ap (λ z. (said first_beginning (held first_beginning z r.load.generation).records).keys) (member range).kept.behind.1
+            ∙ held_keys (layer_at texts) r.load.generation (keys_of h range) (own_of range) (taken_of range) (range_of range).runs known.keys known.these load

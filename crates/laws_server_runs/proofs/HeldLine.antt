@@ -225,7 +225,7 @@ out_count append (Some out) fits =
 
 module _ (texts : ℕ → Bytes) where
   -- what is at its line within its keys is at its line, if it has all keys
-  pub at_line : (log : Story Group) (copies : ℕ → List (Copy Group)) (r : RangeState) → r.said.keys ≡ all_keys → IsAtLineWithin texts log copies r → IsAtLine texts log copies r
+  pub at_line : (log : Story Group) (copies : ℕ → List (Copy Group)) (r : RangeState) → r.said.keys ≡ all_keys → IsAtLineWithin texts r.said.keys log copies r → IsAtLine texts log copies r
   at_line log copies r all at = record { position = at.position; next = at.next; table = λ key. at.table key (ap (λ keys. within keys key) all ∙ in_all key) }
 
   -- ---- layers in order
@@ -276,8 +276,9 @@ module _ (texts : ℕ → Bytes) where
 
     -- a range that is served is at its line within its keys, by any copies that belong to its loads
     pub at_own_keys : (rows : ℕ → List Row) → ShowsLayers (layer_at texts) first_beginning rows run → (order : KeepsOrder (log_of v)) → EndsRise (log_of v) → KeepsOrder (metadata_of v) → OutFits r.out → AllStand texts v.answered →
-        IsAtLineWithin texts (log_of v) order.copies r
+        IsAtLineWithin texts r.said.keys (log_of v) order.copies r
     at_own_keys rows shows order ends metadata_order fits stand = record {
+      keys_are = refl;
       position = m.position ∙ position_at g (layer_at texts) run streams.chain ∙ ap (λ l. end_to l g) streams.log ∙ end_renamed (log_of v) g;
       next = m.next ∙ own.next ∙ (λ i. suc (length (line_is i)) + count i);
       table = λ key there. known_table key there ∙ own.table key there ∙ ap (λ l. after_line l empty_table key) line_is;

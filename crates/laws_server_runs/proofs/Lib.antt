@@ -24,7 +24,7 @@ mod MetadataJobs
 pub mod ServingStays
 mod StaysServed
 mod KeysRecords
-mod SplitJobs
+pub mod SplitJobs
 mod TurnChanges
 pub mod SplitsSince
 pub mod SplitsBack
@@ -40,7 +40,7 @@ pub mod ChildSteps
 pub mod SplitsHeld
 mod PausedSplits
 mod ClosedRanges
-mod FormedGroups
+pub mod FormedGroups
 mod ClosedStories
 pub mod SplitMore
 pub mod SplitTurns
@@ -123,3 +123,12 @@ mod WorkedChildren
 mod WorkedBirths
 mod WorkedReplays
 pub mod CheckpointActions
+pub mod AnsweredServers
+pub mod SplitStays
+pub mod AnsweredStands
+pub mod AnsweredRuns
+pub mod AnsweredEvents
+pub mod AnsweredBirths
+pub mod AnsweredNotes
+pub mod AnsweredReplays
+mod WorkedAnswers

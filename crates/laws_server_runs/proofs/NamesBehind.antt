@@ -90,7 +90,7 @@ meta_both (chains.Confirms i start end groups metadata_end records ∷ more) run
 
 -- ---- what is named stays so
 
-event_later : {A : Type 0} (story : Story A) (more : List (StreamEvent A)) (a : ℕ) (e : StreamEvent A) → event_at story a ≡ Some e → event_at (more ++ story) a ≡ Some e
+pub event_later : {A : Type 0} (story : Story A) (more : List (StreamEvent A)) (a : ℕ) (e : StreamEvent A) → event_at story a ≡ Some e → event_at (more ++ story) a ≡ Some e
 event_later {A} story [] a e at = at
 event_later {A} story (x ∷ more) a e at = older A x (more ++ story) a e (event_later story more a e at)
 

@@ -64,15 +64,15 @@ any_assigned (Builds source range) = tt
 
 -- ---- tests
 
-not_false : (b : Bool) → not b ≡ false → b ≡ true
+pub not_false : (b : Bool) → not b ≡ false → b ≡ true
 not_false true e = refl
 not_false false e = absurd cc
 
-or_false : (a b : Bool) → (a || b) ≡ false → a ≡ false
+pub or_false : (a b : Bool) → (a || b) ≡ false → a ≡ false
 or_false true b e = absurd cc
 or_false false b e = refl
 
-is_none : {A : Type 0} (x : Option A) → is_some x ≡ false → x ≡ None
+pub is_none : {A : Type 0} (x : Option A) → is_some x ≡ false → x ≡ None
 is_none None e = refl
 is_none (Some x) e = absurd cc
 
@@ -431,11 +431,11 @@ module _ (IsAssigned : ℕ → Type 0) (IsNumbered : (low high : ℕ) → Type 0
   nobody : RunStep IsAssigned IsNumbered x [] (with_outcome x (record { servers = x.servers; packets = []; notes = [] }))
   nobody = Keeps x.servers [] (λ t c q there up. inr (c, q, there, up, refl, refl))
 
-  abbrev IsLike : ServerCell → ServerCell → Type 0
+  abbrev pub IsLike : ServerCell → ServerCell → Type 0
   IsLike cell d = (q : ServerState) → d.state ≡ Some q → ((q.ranges ≡ []) × (q.splits ≡ [])) ⊎ ((st : ServerState) × (cell.state ≡ Some st) × (q.ranges ≡ st.ranges) × (q.splits ≡ st.splits))
 
   -- one server goes to another state
-  one_like : (s : ℕ) (cell : ServerCell) → entry_at x.servers s ≡ Some cell → (d : ServerCell) → IsLike cell d → HoldNoMore x.servers (slice_set x.servers (s - 1) d)
+  pub one_like : (s : ℕ) (cell : ServerCell) → entry_at x.servers s ≡ Some cell → (d : ServerCell) → IsLike cell d → HoldNoMore x.servers (slice_set x.servers (s - 1) d)
   one_like s cell at d like t c q there up = elim (cases_eq t s) [
     | inl same ↦
         (let found : Some d ≡ Some c = sym (entry_set x.servers s cell d at) ∙ subst (λ n. entry_at (slice_set x.servers (s - 1) d) n ≡ Some c) same there in
@@ -451,7 +451,7 @@ module _ (IsAssigned : ℕ → Type 0) (IsNumbered : (low high : ℕ) → Type 0
       RunStep IsAssigned IsNumbered x [] (with_outcome x (record { servers = slice_set x.servers (s - 1) d; packets = []; notes = [] }))
   one_keeps s cell at d like = Keeps (slice_set x.servers (s - 1) d) [] (one_like s cell at d like)
 
-  same_cell : (cell : ServerCell) → IsLike cell cell
+  pub same_cell : (cell : ServerCell) → IsLike cell cell
   same_cell cell q is = inr (q, is, refl, refl)
 
   takes_step : (s : ℕ) (p : Packet) → AllAssigned IsAssigned (Takes s p) → AllNumbered IsNumbered (Takes s p) → RunStep IsAssigned IsNumbered x (outcome_of x.servers (Takes s p)).notes (after_event x (Takes s p))
@@ -545,7 +545,7 @@ module _ (IsAssigned : ℕ → Type 0) (IsNumbered : (low high : ℕ) → Type 0
       go (Some cell) at = one_keeps s cell at (cell_starts s now batch cell cell.state) (like cell cell.state)
 
   -- a moment comes to all
-  moment_like : (now : ℕ) → HoldNoMore x.servers (map (told_moment now) x.servers)
+  pub moment_like : (now : ℕ) → HoldNoMore x.servers (map (told_moment now) x.servers)
   moment_like now t c q there up =
       let old : (b : ServerCell) × (entry_at x.servers t ≡ Some b) × (c ≡ told_moment now b) = entry_unmapped (told_moment now) x.servers t c there in
       by old.0 old.1 old.0.state refl (sym (ap (λ (z : ServerCell). z.state) old.2) ∙ up)

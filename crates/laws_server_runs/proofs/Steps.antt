@@ -28,7 +28,7 @@ use Rattle.laws_server_runs.proofs.OwnNotes.{only_both}
 
 module _ (texts : ℕ → Bytes) (subject : ℕ) where
   -- a load of its generation was confirmed
-  shown_at : (run : Run) (v : RangeView) (u : RangeState) → RangeKept texts subject run v u → is_serving u.stage ≡ true → IsServing run u.load.generation
+  pub shown_at : (run : Run) (v : RangeView) (u : RangeState) → RangeKept texts subject run v u → is_serving u.stage ≡ true → IsServing run u.load.generation
   shown_at run v u k serves = by u.stage k.stage serves
     where
       by : (stage : Stage) → StageIs texts run v u stage → is_serving stage ≡ true → IsServing run u.load.generation

@@ -22,6 +22,7 @@ use Rattle.model_histories.specs.ServerRun.{ServerRun, ServerEvent, RangeEffect,
 use Rattle.model_histories.specs.Story.{Showed, event_at}
 use Rattle.laws_tables.specs.Runs.{Run, Forms, Logged, Notes, Records, Recorded, Trims, Confirms, log_of, IsServing}
 use Rattle.laws_tables.proofs.Range.{newest}
+use Rattle.laws_server_runs.specs.BornRanges.{AllInOrder}
 use Rattle.laws_server_runs.specs.ChildInvariant.{SplitHolds, SplitsHold, HasNothingOut, IsBuilding, IsPaused, IsBuildOf, IsBuiltBy, IsUntouched, MayBuild, BuildsSo, AreBornSo, ChildKept, ChildGoes}
 use Rattle.laws_server_runs.specs.ClosedRanges.{HasPaused, SplitPlan, IsPausedBy, IsClosed, FormedBefore}
 use Rattle.laws_server_runs.specs.Places.{RunLaid}
@@ -30,7 +31,7 @@ use Rattle.laws_server_runs.specs.RunInvariant.{HasLoad, Taken, RunBehind}
 use Rattle.laws_server_runs.specs.StoodRanges.{plan_of, planned_range, AsksBuild, StoodAt}
 use Rattle.laws_server_runs.specs.Turns.{outcome_of, IsOfServers}
 use Rattle.laws_server_runs.proofs.Actions.{actions_rest, sides_rest, event_longer}
-use Rattle.laws_server_runs.proofs.ChildTheorem.{AllInOrder, AreOther, order_before, all_children, child_follows}
+use Rattle.laws_server_runs.proofs.ChildTheorem.{AreOther, order_before, all_children, child_follows}
 use Rattle.laws_server_runs.proofs.ClosedRanges.{serving_behind, serving_longer, closed_step}
 use Rattle.laws_server_runs.proofs.ClosedStories.{same_formed, formed_step}
 use Rattle.laws_server_runs.proofs.Fronts.{longer_same, longer_twice}

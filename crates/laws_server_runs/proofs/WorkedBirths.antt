@@ -78,12 +78,12 @@ at_state P [] a s cell st e runs = absurd a
 at_state P (one ∷ two ∷ more) a s cell st e runs = absurd a
 
 -- no event builds the streams of a range
-abbrev NoneBuilt : ℕ → List ServerEvent → Type 0
+abbrev pub NoneBuilt : ℕ → List ServerEvent → Type 0
 NoneBuilt range [] = Unit {0}
 NoneBuilt range (Builds source built ∷ earlier) = (range ≡ built → ⊥) × NoneBuilt range earlier
 NoneBuilt range (event ∷ earlier) = NoneBuilt range earlier
 
-built_none : (range : ℕ) (events : List ServerEvent) → NoneBuilt range events → IsBuiltBy events range → ⊥
+pub built_none : (range : ℕ) (events : List ServerEvent) → NoneBuilt range events → IsBuiltBy events range → ⊥
 built_none range [] n built = built
 built_none range (Builds source other ∷ earlier) n (inl is) = let e : other ≡ range = cc in n.0 (sym e)
 built_none range (Builds source other ∷ earlier) n (inr built) = built_none range earlier n.1 built
@@ -290,10 +290,10 @@ births texts (event ∷ earlier) sound = (children_of (event ∷ earlier) (run_o
 -- ---- the worked split
 
 -- the streams of the two are built when all that the range made is answered, and the split hears of it
-abbrev sealed_log : List ServerEvent
+abbrev pub sealed_log : List ServerEvent
 sealed_log = sealed_at 13 20 9 ∷ sealed_at 12 30 74 ∷ recorded
 
-abbrev built_low : List ServerEvent
+abbrev pub built_low : List ServerEvent
 built_low = Builds first_range 2 ∷ sealed_log
 
 -- the split hears that both are built

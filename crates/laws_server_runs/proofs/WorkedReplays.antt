@@ -40,13 +40,13 @@ use Rattle.laws_tables.proofs.Members.{in_contains}
 use Rattle.laws_tables.proofs.Range.{event_cases}
 use Rattle.laws_tables.specs.Families.{IsChild, generation_of}
 use Rattle.laws_tables.specs.Fenced.{Seen, Landed, Fenced, LogRun, IsLogRun, visible}
+use Rattle.laws_server_runs.specs.BornRanges.{AllInOrder, AllAreBorn, IsSplitOff}
 use Rattle.laws_server_runs.specs.ChildInvariant.{AreBornSo, ChildAt, IsSaying}
 use Rattle.laws_server_runs.specs.FamilyMembers.{of_servers}
 use Rattle.laws_server_runs.specs.Turns.{BuildsOther}
 use Rattle.laws_server_runs.proofs.Actions.{other_test}
-use Rattle.laws_server_runs.proofs.ChildTheorem.{AllInOrder}
 use Rattle.laws_server_runs.proofs.NeededPremises.{one_once, one_ends}
-use Rattle.laws_server_runs.proofs.SplitsReplay.{AllAreBorn, IsSplitOff, splits_replay}
+use Rattle.laws_server_runs.proofs.SplitsReplay.{splits_replay}
 use Rattle.laws_server_runs.proofs.UntouchedRanges.{IsUnused, HasNothing, StaysUnused, has_nothing}
 use Rattle.laws_server_runs.proofs.Worked.{comes, asked, nothing}
 use Rattle.laws_server_runs.proofs.WorkedBirths.{AllSound, AtState, at_state, births, only_number, rest, said_both, said_sound, told_built}
@@ -55,14 +55,14 @@ use Rattle.laws_server_runs.proofs.WorkedSplits.{begun, checkpointed, record_of,
 -- ---- what comes
 
 -- the record of the checkpoint that the range makes when its split begins, and the index of an empty table
-abbrev checkpoint_record : Group
+abbrev pub checkpoint_record : Group
 checkpoint_record = record_of 1 (Checkpoint false (record { extent = 20; offset = 0; length = 9 }) (record { index = 0; offset = 0 }) 1)
 
-abbrev index : List ℕ
+abbrev pub index : List ℕ
 index = 0 ∷ 0 ∷ 0 ∷ 9 ∷ 0 ∷ 0 ∷ 0 ∷ 0 ∷ 0 ∷ []
 
 -- the streams of the lower of the two, as they were built, with the extent of its keys
-abbrev low_lists : StreamLists
+abbrev pub low_lists : StreamLists
 low_lists = record {
   metadata = record { base = 0; extents = record { extent = 30; places = first_pick; length = Some 74 } ∷ record { extent = 31; places = first_pick; length = None } ∷ [] };
   log = nothing;
@@ -71,7 +71,7 @@ low_lists = record {
 }
 
 -- the split ends and the map assigns the lower one, whose metadata is checked and read, then its index, and its load is confirmed
-abbrev late : List ServerEvent
+abbrev pub late : List ServerEvent
 late =
     comes 1 Manager (bodies.Stream (streams.Confirmed (asked 1 26)))
     ∷ comes 1 (Node 1) (bodies.Read (reads.Bytes (asked 1 25) 20 0 index))
@@ -83,12 +83,12 @@ late =
     ∷ comes 1 Map (bodies.Map (maps.SplitDone (asked 1 19)))
     ∷ []
 
-abbrev loaded_low : List ServerEvent
+abbrev pub loaded_low : List ServerEvent
 loaded_low = late ++ said_both
 
 -- ---- what its server makes of it
 
-abbrev run : ServerRun
+abbrev pub run : ServerRun
 run = run_of 1 1 loaded_low
 
 -- the metadata of the range
@@ -112,14 +112,14 @@ log = Showed 1 0 0 [] ∷ []
 abbrev low_log : Story Group
 low_log = Showed 2 0 0 [] ∷ log
 
-abbrev bytes_at : (extent offset : ℕ) → Group → PlacedBytes
+abbrev pub bytes_at : (extent offset : ℕ) → Group → PlacedBytes
 bytes_at extent offset group = record { extent = extent; offset = offset; bytes = joined group }
 
 abbrev index_bytes : PlacedBytes
 index_bytes = record { extent = 20; offset = 0; bytes = index }
 
 -- the index, and the two records of the range
-abbrev own_bytes : List PlacedBytes
+abbrev pub own_bytes : List PlacedBytes
 own_bytes = bytes_at 30 46 split_record ∷ bytes_at 30 0 checkpoint_record ∷ index_bytes ∷ []
 
 stories : (run.story (metadata_name 1) ≡ own_metadata) × (run.story (metadata_name 2) ≡ low_metadata) × (run.story (metadata_name 3) ≡ behind high_keys)
@@ -354,7 +354,7 @@ module _ (n : ℕ) (not_first : n ≡ 1 → ⊥) (not_second : n ≡ 2 → ⊥) 
 -- ---- its split
 
 -- no split makes the first range, nor are its streams built of another's
-unnumbered : AreUnborn first_range loaded_low
+pub unnumbered : AreUnborn first_range loaded_low
 unnumbered = (tt, (tt, (tt, (tt, (tt, (tt, (tt, (tt, (tt, (tt, (tt, (tt, (tt, (λ e. absurd cc, (λ e. absurd cc, (tt, (tt, (tt, (tt, (tt, (tt, (tt, (tt, ((λ e. absurd cc, λ e. absurd cc), (tt, (tt, (tt, (tt, tt))))))))))))))))))))))))))))
 
 -- when both keys stand it waits for its end
@@ -413,12 +413,17 @@ module _ (texts : ℕ → Bytes) (there : AllStand texts (bytes_at 32 0 high_key
   in_order zero = other_ordered 0 (has_none 0 (λ e. absurd cc) (λ e. absurd cc) (λ e. absurd cc))
   in_order (suc (suc (suc (suc n)))) = other_ordered (suc (suc (suc (suc n)))) (has_none (suc (suc (suc (suc n)))) (λ e. absurd cc) (λ e. absurd cc) (λ e. absurd cc))
 
+  -- the lower one reads what it has of the log as the range that was split did
+  pub same_copies : (l : ℕ) → (in_order 2).log.copies l ≡ (in_order 1).log.copies l
+  unfolding in_order
+  same_copies l = refl
+
   -- the map says of the split that it made the two, after the range was loaded and before the lower one was
   module _ (rows low_rows : List Row) where
-    abbrev h : List Note
+    abbrev pub h : List Note
     h = Loaded 1 1 rows 1 ∷ Split 1 2 3 key ∷ Loaded 2 2 low_rows 1 ∷ []
 
-    abbrev is_child : IsChild h 1 2
+    abbrev pub is_child : IsChild h 1 2
     is_child = record {
       before = Loaded 1 1 rows 1 ∷ [];
       after = Loaded 2 2 low_rows 1 ∷ [];
@@ -464,7 +469,7 @@ module _ (texts : ℕ → Bytes) (there : AllStand texts (bytes_at 32 0 high_key
     }
 
     -- no other is told of
-    untold : (r : ℕ) → (r ≡ 1 → ⊥) → (r ≡ 2 → ⊥) → only r h ≡ []
+    pub untold : (r : ℕ) → (r ≡ 1 → ⊥) → (r ≡ 2 → ⊥) → only r h ≡ []
     untold r not_first not_second =
         rest r (Loaded 1 1 rows 1) (Split 1 2 3 key ∷ Loaded 2 2 low_rows 1 ∷ []) (other_test r 1 not_first)
         (rest r (Split 1 2 3 key) (Loaded 2 2 low_rows 1 ∷ []) refl (rest r (Loaded 2 2 low_rows 1) [] (other_test r 2 not_second) refl))

@@ -37,8 +37,16 @@ abbrev pub IsPausedBy : SplitPlan → RangeState → Option SplitJob → Type 0
 IsPausedBy plan r None = ⊥
 IsPausedBy plan r (Some job) = IsPausedSo plan r job
 
+-- of a range, by its split, wherever it is served under a generation
+abbrev pub IsMarked : (RangeState → Option SplitJob → Type 0) → (range g : ℕ) → ServerRun → Type 0
+IsMarked Marked range g x = (s : ℕ) (r : RangeState) (at : ServesAt x s range r) → r.load.generation ≡ g → Marked r (split_of at.state.splits range)
+
+-- it is being split
+abbrev pub IsBusy : RangeState → Option SplitJob → Type 0
+IsBusy r job = (split : SplitJob) × (job ≡ Some split)
+
 abbrev pub IsClosed : SplitPlan → (range g : ℕ) → ServerRun → Type 0
-IsClosed plan range g x = (s : ℕ) (r : RangeState) (at : ServesAt x s range r) → r.load.generation ≡ g → IsPausedBy plan r (split_of at.state.splits range)
+IsClosed plan range g x = IsMarked (IsPausedBy plan) range g x
 
 -- each group of the log that was formed under the generation was formed before
 abbrev pub FormedBefore : (range g : ℕ) → ServerRun → ServerRun → Type 0

@@ -9,3 +9,5 @@ pub mod Places
 pub mod Turns
 pub mod FamilyMembers
 pub mod OwnKeys
+pub mod BornRanges
+pub mod Answerers

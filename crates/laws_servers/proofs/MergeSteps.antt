@@ -27,14 +27,15 @@ use Rattle.model_partition.specs.declared.merge_job.MergeRecord.{MergeRecord}
 use Rattle.model_partition.specs.declared.merge_job.MergeRecord.TheVariants.{Keys, Regions}
 use Rattle.model_partition.specs.declared.merge_job.MergeSide.{MergeSide}
 use Rattle.model_partition.specs.declared.merge_job.MergeSide.TheVariants.{Left, Right}
-use Rattle.model_partition.specs.Range.{RangeState, request, given, picking, refused_gets}
+use Rattle.model_partition.specs.Range.{RangeState, RangeOutcome, request, given, picking, refused_gets}
+use Rattle.model_partition.specs.ControlJobs.{give_up_control}
 use Rattle.model_partition.specs.Checkpoints.{begins, trimmed}
 use Rattle.model_partition.specs.Splits.{may_checkpoint, is_drained, is_extent, has_number}
-use Rattle.model_partition.specs.Merges.{MergeStep, ends, loses, begun, begins_right, Part, open_part, all_parts, parts_after, first_open, seals_or_builds, seals_among, sealed_left, sealed_right, last_sealed, pausing, drains, creates, new_metadata, record_of, may_write, appends_record, writes, created, record_stands, write_told, write_reply, begin_refused, seal_refused, build_refused, create_refused, complete_refused, refused, refused_by, map_told, seal_told, stream_told, told, merge_reply_in, merge_reply, left_ends, follows_in, follows, gives_up_in, gives_up}
+use Rattle.model_partition.specs.Merges.{MergeStep, ends, loses, begun, begins_right, Part, open_part, all_parts, parts_after, first_open, seals_or_builds, seals_among, sealed_left, sealed_right, last_sealed, pausing, drains, creates, new_metadata, record_of, may_write, appends_record, writes, created, record_stands, write_told, write_reply, begin_refused, seal_refused, build_refused, create_refused, complete_refused, refused, refused_by, map_told, seal_told, stream_told, told, merge_reply_in, merge_reply, left_ends, follows_in, follows, asks_again_in, checkpoint_again, gives_up, gives_up_with, has_numbers_again, other_checkpoint}
 use Rattle.laws_servers.specs.Sending.{AllFromServers}
 use Rattle.laws_servers.proofs.ClientPackets.{from_servers, servers_both, given_calls, append_rule_calls, reply_calls, give_up_calls}
-use Rattle.laws_servers.proofs.RangeSteps.{gets_all, begins_tidy}
-use Rattle.laws_servers.proofs.SplitSteps.{client_sends, seal_again_all}
+use Rattle.laws_servers.proofs.RangeSteps.{gets_all, begins_tidy, control_tidy}
+use Rattle.laws_servers.proofs.SplitSteps.{client_sends, seal_again_all, users_sends}
 
 -- what it sends is from a server
 abbrev pub Sends : MergeStep → Type 0
@@ -47,8 +48,8 @@ ends_sends : (d : ServerContext) (l r : RangeState) → Sends (ends d l r)
 ends_sends d l r = servers_both (refused_gets d l) (refused_gets d r) (gets_sends d l) (gets_sends d r)
 
 loses_sends : (d : ServerContext) (l r : RangeState) (side : MergeSide) → Sends (loses d l r side)
-loses_sends d l r Left = gets_sends d l
-loses_sends d l r Right = gets_sends d r
+loses_sends d l r Left = users_sends d l
+loses_sends d l r Right = users_sends d r
 
 -- ---- the checkpoints
 
@@ -113,6 +114,7 @@ write_reply_sends d l r job what c body =
 -- ---- answers
 
 begin_refused_sends : (d : ServerContext) (l r : RangeState) (job : MergeJob) (refusal : Refusal) → Sends (begin_refused d l r job refusal)
+begin_refused_sends d l r job refusals.Stale = loses_sends d l r Left
 begin_refused_sends d l r job refusals.NotOwner = tt
 begin_refused_sends d l r job refusals.NotAdjacent = tt
 begin_refused_sends d l r job refusals.GenerationChanged = tt
@@ -187,14 +189,23 @@ follows_in_sends d l r job side phase = tt
 pub merge_follows_sends : (d : ServerContext) (l r : RangeState) (job : MergeJob) (side : MergeSide) → Sends (follows d l r job side)
 merge_follows_sends d l r job side = if_elim Sends (has_number d) _ _ (λ t. follows_in_sends d l r job side job.phase) (λ f. tt)
 
-gives_up_in_sends : (d : ServerContext) (l r : RangeState) (job : MergeJob) (phase : MergePhase) → Sends (gives_up_in d l r job phase)
-gives_up_in_sends d l r job (phases.Begin q) = ((d.server, refl, inr (inr refl)), tt)
-gives_up_in_sends d l r job (phases.Seal side kind q) = seal_again_all d (open_part l r side kind) q
-gives_up_in_sends d l r job (phases.Build q) = ((d.server, refl, inl refl), tt)
-gives_up_in_sends d l r job (phases.Create q) = ((d.server, refl, inl refl), tt)
-gives_up_in_sends d l r job (phases.Write what c) = client_sends (give_up_rule (picking d c) (request d) d.pick).packet (give_up_calls (picking d c) (request d) d.pick)
-gives_up_in_sends d l r job (phases.Complete q) = ((d.server, refl, inr (inr refl)), tt)
-gives_up_in_sends d l r job phase = tt
+asks_again_in_sends : (d : ServerContext) (l r : RangeState) (job : MergeJob) (phase : MergePhase) → Sends (asks_again_in d l r job phase)
+asks_again_in_sends d l r job (phases.Begin q) = ((d.server, refl, inr (inr refl)), tt)
+asks_again_in_sends d l r job (phases.Seal side kind q) = seal_again_all d (open_part l r side kind) q
+asks_again_in_sends d l r job (phases.Build q) = ((d.server, refl, inl refl), tt)
+asks_again_in_sends d l r job (phases.Create q) = ((d.server, refl, inl refl), tt)
+asks_again_in_sends d l r job (phases.Write what c) = client_sends (give_up_rule (picking d c) (request d) d.pick).packet (give_up_calls (picking d c) (request d) d.pick)
+asks_again_in_sends d l r job (phases.Complete q) = ((d.server, refl, inr (inr refl)), tt)
+asks_again_in_sends d l r job phase = tt
 
-pub merge_gives_up_sends : (d : ServerContext) (l r : RangeState) (job : MergeJob) → Sends (gives_up d l r job)
-merge_gives_up_sends d l r job = if_elim Sends (has_number d) _ _ (λ t. gives_up_in_sends d l r job job.phase) (λ f. tt)
+checkpoint_again_sends : (d : ServerContext) (r : RangeState) → AllFromServers (checkpoint_again d r).packets
+checkpoint_again_sends d r =
+    if_elim (λ (o : RangeOutcome). AllFromServers o.packets) (has_numbers_again d) _ _ (λ t. from_servers (give_up_control d r).packets (control_tidy d r)) (λ f. tt)
+
+gives_up_with_sends : (d : ServerContext) (l r : RangeState) (job : MergeJob) (other : Option MergeSide) → Sends (gives_up_with d l r job other)
+gives_up_with_sends d l r job None = if_elim Sends (has_number d) _ _ (λ t. asks_again_in_sends d l r job job.phase) (λ f. tt)
+gives_up_with_sends d l r job (Some Left) = checkpoint_again_sends d l
+gives_up_with_sends d l r job (Some Right) = checkpoint_again_sends d r
+
+pub merge_gives_up_sends : (d : ServerContext) (l r : RangeState) (job : MergeJob) (told : MergeSide) → Sends (gives_up d l r job told)
+merge_gives_up_sends d l r job told = gives_up_with_sends d l r job (other_checkpoint job.phase told)

@@ -57,6 +57,7 @@ use Rattle.model_partition.specs.declared.checkpoint_job.CheckpointPhase.{Checkp
 use Rattle.model_partition.specs.declared.checkpoint_job.CheckpointPhase.TheVariants as checkpoints
 use Rattle.model_partition.specs.Checkpoints.{number_to_apply, have_bytes, new_job, new_combining_job, combines, with_fixed, rows_go, writes_pages, combined_job, writes_combined, asks_page, merges_next, merges, page_comes, page_read, page_bytes, page_told, begins, checkpoint_rule, pages_stand, checkpoint_record, has_record_number, may_record, index_place, records, index_stands, rows_stand, rows_told, rows_may_stand, rows_reply, record_stands, record_told, trim_awaits, trim_told, trim_reply_in, phase_again, trim_again}
 use Rattle.model_partition.specs.Answering.{load_refused, load_told, load_reply, metadata_reply, serving_news, is_taken, log_taken, log_reply, index_told, index_reply, page_reply, trim_reply, bytes_reply, gets_reply, answer_rule, gives_up_job, gives_up_reading, give_up_all, groups_of}
+use Rattle.model_partition.specs.ControlJobs.{give_up_control}
 use Rattle.model_partition.specs.Servers.{ArePlain, ShowsLoad}
 use Rattle.laws_servers.specs.Sending.{AllFromRanges}
 use Rattle.laws_servers.proofs.ClientPackets.{all_both, all_map, all_flat, listed, Calls, given_calls, append_rule_calls, check_rule_calls, read_sealed_calls, read_checked_calls, reply_calls, give_up_calls, again_calls}
@@ -559,3 +560,11 @@ give_up_tidy d r =
           (all_flat (λ (g : WaitingGet). (gives_up_get d r g).1) (λ g. gives_up_read_all d r g (slice_get g.reads (length g.reads - 1))) r.gets)))))),
       tt,
     )
+
+pub control_tidy : (d : ServerContext) (r : RangeState) → AllFromRanges (give_up_control d r).packets
+control_tidy d r =
+    let m : Outcome = gives_up_job (used d) r.metadata in
+    let w : Outcome = gives_up_job (used (used d)) r.rows in
+    all_both (option_to_list m.packet) _ (listed m.packet (give_up_calls (picking d r.metadata) (request (used d)) d.pick))
+    (all_both (option_to_list w.packet) _ (listed w.packet (give_up_calls (picking d r.rows) (request (used (used d))) d.pick))
+    (all_both (gives_up_reading d r r.reading) _ (gives_up_reading_all d r r.reading) (trim_again_all d r r.control)))

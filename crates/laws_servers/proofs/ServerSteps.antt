@@ -54,9 +54,9 @@ follows_both_sends : (s : ServerState) (left : ℕ) (job : MergeJob) (side : Mer
 follows_both_sends s left job side None = tt
 follows_both_sends s left job side (Some two) = merge_follows_sends s.context two.0 two.1 job side
 
-give_up_both_sends : (s : ServerState) (left : ℕ) (job : MergeJob) (both : Option TwoRanges) → AllFromServers (give_up_both s left job both).packets
-give_up_both_sends s left job None = tt
-give_up_both_sends s left job (Some two) = merge_gives_up_sends s.context two.0 two.1 job
+give_up_both_sends : (s : ServerState) (left : ℕ) (job : MergeJob) (told : MergeSide) (both : Option TwoRanges) → AllFromServers (give_up_both s left job told both).packets
+give_up_both_sends s left job told None = tt
+give_up_both_sends s left job told (Some two) = merge_gives_up_sends s.context two.0 two.1 job told
 
 -- ---- a step of a range, and what its split or its merge then does
 
@@ -107,7 +107,7 @@ module _ (s : ServerState) (range : ℕ) (o : RangeOutcome) (IsShown : List Tabl
     where
       by : (x : Option MergeJob) → Tells (given_up_merging s range left x o)
       by None = given_up_with_tells (split_of s.splits range)
-      by (Some job) = behind_tells left job merge_gives_up (λ z. give_up_both_sends z left job (both_of z.ranges job)) o.after
+      by (Some job) = behind_tells left job (merge_gives_up range) (λ z. give_up_both_sends z left job (side_of_range job range) (both_of z.ranges job)) o.after
 
 stepped_tidy : (s : ServerState) (range : ℕ) (o : RangeOutcome) → IsTidy o → AreTidy (stepped s range o)
 stepped_tidy s range o h = stepped_tells s range o ArePlain (from_servers o.packets h.0) h.1

@@ -39,7 +39,7 @@ use Rattle.laws_servers.proofs.RangeSteps.{refused_all, begins_tidy}
 abbrev pub Sends : SplitStep → Type 0
 Sends t = AllFromServers t.packets
 
-users_sends : (d : ServerContext) (r : RangeState) → AllFromServers (refused_users d r)
+pub users_sends : (d : ServerContext) (r : RangeState) → AllFromServers (refused_users d r)
 users_sends d r = from_servers (refused_users d r) (refused_all d r)
 
 pub client_sends : (p : Option Packet) → IfFromRange p → AllFromServers (option_to_list p)

@@ -119,7 +119,7 @@ module _ (A : Type 0) (gen : ℕ → ℕ) where
 
   -- ---- each load was confirmed
 
-  abbrev WasConfirmed : MachineState A → ℕ → Type 0
+  abbrev pub WasConfirmed : MachineState A → ℕ → Type 0
   WasConfirmed s g = (i : ℕ) × (read : List (Copy A)) × (to : ℕ) × In (Confirmed i read to) s.facts × (gen i ≡ g)
 
   confirmed_later : (s : MachineState A) (x : MachineStep A) (g : ℕ) → WasConfirmed s g → WasConfirmed (next A gen s x) g
@@ -160,7 +160,7 @@ module _ (A : Type 0) (gen : ℕ → ℕ) where
   load_confirmed (Appends i e append group ∷ earlier) ok l g start end groups h = confirmed_later (after A gen earlier) (Appends i e append group) g (load_confirmed earlier ok.1 l g start end groups h)
   load_confirmed (Extends i n ∷ earlier) ok l g start end groups h = confirmed_later (after A gen earlier) (Extends i n) g (load_confirmed earlier ok.1 l g start end groups h)
 
-  moves_confirmed : (moves : List (Move A gen)) → AreMoves A gen moves → (l g start end : ℕ) (groups : List (Placed A)) → event_at (story_of A gen moves) l ≡ Some (Showed g start end groups) →
+  pub moves_confirmed : (moves : List (Move A gen)) → AreMoves A gen moves → (l g start end : ℕ) (groups : List (Placed A)) → event_at (story_of A gen moves) l ≡ Some (Showed g start end groups) →
       WasConfirmed (after_all A gen moves).state g
   moves_confirmed moves ok l g start end groups h =
       let good : Good A gen (after_all A gen moves) = all_good A gen moves ok in

@@ -19,7 +19,7 @@ module _ (A : Type 0) where
     pub filled : c.from < c.to
     pub within : c.to ≤ end_of run
 
-  made_below : (run : LogRun A) → IsLogRun run → (n g : ℕ) (group : A) → event_at (visible run) n ≡ Some (Made g group) → g ≤ fence run
+  pub made_below : (run : LogRun A) → IsLogRun run → (n g : ℕ) (group : A) → event_at (visible run) n ≡ Some (Made g group) → g ≤ fence run
   made_below [] ok n g group h = absurd (cc)
   made_below (Seen e ∷ earlier) ok n g group h =
       ⊎_elim {C = g ≤ fence earlier}

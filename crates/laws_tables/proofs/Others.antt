@@ -131,7 +131,7 @@ eldest_same h r = eldest-others (reverse h) r ∙ ap (λ z. eldest_back z r) (ot
 kin_same : (h : List Note) (r : ℕ) → kin h r ≡ kin (table_notes h) r
 kin_same h r = kin-others (reverse h) r ∙ ap (λ z. kin_back z r) (others-reverse h)
 
-keys_same : (h : List Note) (r : ℕ) → keys_of h r ≡ keys_of (table_notes h) r
+pub keys_same : (h : List Note) (r : ℕ) → keys_of h r ≡ keys_of (table_notes h) r
 keys_same h r = keys-others (reverse h) r ∙ ap (λ z. keys_back z r) (others-reverse h)
 
 -- ---- members

@@ -4,7 +4,8 @@ use Rattle.std.specs.List.{AllByRecursion}
 use Rattle.std.specs.declared.cmp.Ordering.TheVariants.{Less, Equal, Greater}
 use Rattle.std.specs.BTreeMap.{insert_entry}
 use Rattle.memtable.specs.declared.cell.Cell.{Cell}
-use Rattle.memtable.specs.Entries.{Entries, IsFit, key_cmp, put_all}
+use Rattle.memtable.specs.Entries.{Entries, AreNumbered, HasNumber, IsFit, key_cmp, put_all}
+use Rattle.memtable.specs.Cell.{IsNumbered}
 
 -- what holds of entries holds of the key of one with the cell of another
 abbrev pub IsOfParts : (List ℕ × Cell → Type 0) → Type 0
@@ -28,3 +29,9 @@ entry_parts a b of_a of_b = (of_a.0, of_b.1)
 
 pub fits_put : (es : Entries) (changes : Entries) → AllByRecursion IsFit es → AllByRecursion IsFit changes → AllByRecursion IsFit (put_all es changes)
 fits_put es changes all fit = all_put IsFit entry_parts es changes all fit
+
+number_parts : IsOfParts HasNumber
+number_parts a b of_a of_b = of_b
+
+pub numbered_insert : (key : List ℕ) (cell : Cell) (es : Entries) → IsNumbered cell → AreNumbered es → AreNumbered (insert_entry key_cmp es key cell)
+numbered_insert key cell es here all = all_insert HasNumber number_parts key cell es here all

@@ -7,7 +7,7 @@ use Rattle.std.specs.declared.cmp.Ordering.{Ordering}
 use Rattle.std.specs.Map.{lookup, remove_entry}
 use Rattle.std.specs.BTreeMap.{insert_entry, is_at}
 use Rattle.memtable.specs.declared.cell.Cell.{Cell}
-use Rattle.memtable.specs.Cell.{entry_size, IsEntry}
+use Rattle.memtable.specs.Cell.{entry_size, IsEntry, IsNumbered}
 
 abbrev pub Entries : Type 0
 Entries = List (List ℕ × Cell)
@@ -20,6 +20,13 @@ IsFit e = IsEntry e.0 e.1
 abbrev pub AllFit : Option Entries → Type 0
 AllFit None = Unit {0}
 AllFit (Some entries) = AllByRecursion IsFit entries
+
+-- the extents that cells name have numbers of 64 bits
+abbrev pub HasNumber : List ℕ × Cell → Type 0
+HasNumber e = IsNumbered e.1
+
+abbrev pub AreNumbered : Entries → Type 0
+AreNumbered entries = AllByRecursion HasNumber entries
 
 -- keys by their bytes, a shorter one first
 abbrev pub key_cmp : List ℕ → List ℕ → Ordering

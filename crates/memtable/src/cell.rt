@@ -40,12 +40,17 @@ impl Drop for Cell {
 impl Cell {
     /// How many bytes its spelling in a page has.
     pub fn size(&self) -> u64
-        ensures { result ≡ specs.cell_size self.now }
+        ensures size { result ≡ specs.cell_size self.now }
+        ensures numbered { specs.IsNumbered self.now }
     {
         match self {
             Cell::Deleted => 1,
             Cell::Inline(value) => 5 + value.len() as u64,
-            Cell::Placed(_) => 17,
+            Cell::Placed(place) => {
+                // For the clause: the number of an extent has 64 bits.
+                let _number = place.extent.0;
+                17
+            }
         }
     }
 
@@ -64,7 +69,8 @@ impl Cell {
 /// How many bytes a key and its cell have in a page. That the sum fits 64 bits is the caller's condition.
 pub fn entry_size(key: &[u8], cell: &Cell) -> u64
     requires { specs.entry_size key.now cell.now < 2 ^ 64 }
-    ensures { result ≡ specs.entry_size key.now cell.now }
+    ensures size { result ≡ specs.entry_size key.now cell.now }
+    ensures numbered { specs.IsNumbered cell.now }
 {
     2 + key.len() as u64 + cell.size()
 }

@@ -36,8 +36,8 @@ impl Model for CellMap {
 
     ghost view = { λ m. m.entries.entries };
 
-    // Its size is known, and each entry is one that a row may have.
-    ghost invariant = { λ m. (m.size ≡ specs.entries_size m.entries.entries) × AllByRecursion specs.IsFit m.entries.entries };
+    // Its size is known, each entry is one that a row may have, and the numbers of extents have 64 bits.
+    ghost invariant = { λ m. (m.size ≡ specs.entries_size m.entries.entries) × (AllByRecursion specs.IsFit m.entries.entries × specs.AreNumbered m.entries.entries) };
 }
 
 impl CellMap {
@@ -95,6 +95,7 @@ impl CellMap {
     pub fn entries(&self) -> &BTreeMap<Bytes, Cell>
         ensures value { result.now.entries ≡ self.now }
         ensures each { AllByRecursion specs.IsFit result.now.entries }
+        ensures numbered { specs.AreNumbered result.now.entries }
     {
         &self.entries
     }

@@ -2,7 +2,7 @@
 ghost use Rattle.std.specs.Prelude.{◌≡◌, ◌+◌, ◌<◌, ◌≤◌, ◌^◌, ℕ, List, IfOk, OnOk, OnErr, if◌then◌else◌};
 ghost use Rattle.std.specs.List.{AllByRecursion};
 ghost use Rattle.std.specs.BTreeMap.{is_at, insert_entry};
-ghost use Rattle.memtable.specs.Cell.{IsEntry};
+ghost use Rattle.memtable.specs.Cell.{IsEntry, IsNumbered};
 ghost use Rattle.memtable.specs.Entries as specs;
 
 use crate::cell::{Cell, entry_size};
@@ -29,6 +29,7 @@ fn put(
     ensures size { IfOk result (λ n. n + specs.entries_size layer.old.entries ≡ size + specs.entries_size layer.new.entries) }
     ensures undos { OnOk result (specs.all_taken_back undos.new.items layer.new.entries
         ≡ specs.all_taken_back undos.old.items layer.old.entries) }
+    ensures numbered { OnOk result (IsNumbered cell) }
     ensures err_layer { OnErr result (layer.new.entries ≡ layer.old.entries) }
     ensures err_undos { OnErr result (undos.new.items ≡ undos.old.items) }
 {
@@ -96,6 +97,7 @@ pub(crate) fn put_all(
     ensures found { OnOk result ((q : List ℕ) → specs.found layer.new.entries q
         ≡ specs.latest q changes.items (specs.found layer.old.entries q)) }
     ensures size { IfOk result (λ n. n + specs.entries_size layer.old.entries ≡ size + specs.entries_size layer.new.entries) }
+    ensures numbered { OnOk result (specs.AreNumbered layer.old.entries → specs.AreNumbered layer.new.entries) }
     ensures err { OnErr result (layer.new.entries ≡ layer.old.entries) }
 {
     let mut undos = Vec::new(alloc);

@@ -2,7 +2,7 @@
 ghost use Rattle.std.specs.Prelude.{◌≡◌, ℕ, List, [], Some, None, true, false, is_some, not, option_map, OnOk, OnErr};
 ghost use Rattle.std.specs.Option.{option_copied};
 ghost use Rattle.std.specs.List.{AllByRecursion};
-ghost use Rattle.memtable.specs.Entries.{IsFit, AllFit, found, latest, put_all};
+ghost use Rattle.memtable.specs.Entries.{IsFit, AllFit, AreNumbered, found, latest, put_all};
 
 use crate::cell::Cell;
 use crate::cell_map::CellMap;
@@ -106,6 +106,7 @@ impl MemTable {
     pub fn live(&self) -> &BTreeMap<Bytes, Cell>
         ensures value { result.now.entries ≡ self.now.live }
         ensures each { AllByRecursion IsFit result.now.entries }
+        ensures numbered { AreNumbered result.now.entries }
     {
         self.live.entries()
     }

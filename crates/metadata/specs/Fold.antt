@@ -1,5 +1,5 @@
 -- What the records of a range's metadata say together.
-use Rattle.std.specs.Prelude.{ℕ, suc, Bool, true, false, ◌&&◌, ◌==◌, nat_lt, List, [], ◌∷◌, Option, Some, None, if◌then◌else◌}
+use Rattle.std.specs.Prelude.{ℕ, suc, Bool, true, false, ◌&&◌, ◌==◌, nat_lt, List, [], ◌∷◌, reverse, Option, Some, None, if◌then◌else◌}
 use Rattle.metadata.specs.declared.record.KeyRange.{KeyRange}
 use Rattle.metadata.specs.declared.record.IndexRange.{IndexRange}
 use Rattle.metadata.specs.declared.record.Region.{Region}
@@ -28,7 +28,7 @@ first_metadata =
       next = 1;
     }
 
--- what a record says
+-- what a record says; one of regions names the oldest index first
 abbrev pub with_item : MetadataState → MetaItem → MetadataState
 with_item m (Ranges keys) = record m { keys = keys }
 with_item m (Checkpoint combine index position next) =
@@ -36,7 +36,7 @@ with_item m (Checkpoint combine index position next) =
       indexes = record { place = index; keys = m.keys } ∷ (if combine then [] else m.indexes);
       regions = record { start = position; end = None; next = next; keys = m.keys } ∷ [];
     }
-with_item m (Regions indexes regions) = record m { indexes = indexes; regions = regions }
+with_item m (Regions indexes regions) = record m { indexes = reverse indexes; regions = regions }
 with_item m (SplitStatus low high key) = m
 
 -- the record of the next number was taken

@@ -187,7 +187,11 @@ impl Metadata {
                 position,
                 next,
             } => self.checkpoint(alloc, combine, index, position, next),
-            MetaItem::Regions { indexes, regions } => {
+            MetaItem::Regions {
+                mut indexes,
+                regions,
+            } => {
+                indexes.items.reverse();
                 self.indexes = indexes;
                 self.regions = regions;
                 Ok(())

@@ -3,7 +3,7 @@
 use crate::record::{IndexRange, Region};
 use std::marker::Model;
 
-/// Indexes, the newest first.
+/// Indexes, of which metadata has the newest first, and a record of it the oldest.
 pub struct IndexRanges {
     pub items: Vec<IndexRange>,
 }

@@ -87,7 +87,7 @@ pub enum MetaItem {
         position: Position,
         next: u64,
     },
-    /// The range has these indexes, and these regions of the log.
+    /// The range has these indexes, of which the oldest stands first, and these regions of the log.
     Regions {
         indexes: IndexRanges,
         regions: Regions,

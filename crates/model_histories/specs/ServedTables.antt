@@ -24,7 +24,7 @@ use Rattle.model_partition.specs.Servers.{ServerCell}
 use Rattle.model_histories.specs.Renaming.{renamed, decoded}
 use Rattle.model_histories.specs.TableContents.{StandsAt, table_in}
 use Rattle.model_histories.specs.StreamActions.{PlacedBytes}
-use Rattle.model_histories.specs.ServerRun.{ServerRun, ServerEvent, Takes, Splits, Builds, log_name, metadata_name, place_number}
+use Rattle.model_histories.specs.ServerRun.{ServerRun, ServerEvent, Takes, Builds, log_name, metadata_name, place_number}
 
 -- ---- premises
 
@@ -40,16 +40,6 @@ IsFirst event = Unit {0}
 abbrev pub AreFirst : List ServerEvent → Type 0
 AreFirst [] = Unit {0}
 AreFirst (event ∷ earlier) = IsFirst event × AreFirst earlier
-
--- no range is split
-abbrev pub IsUnsplit : ServerEvent → Type 0
-IsUnsplit (Splits server range key) = ⊥
-IsUnsplit (Builds source range) = ⊥
-IsUnsplit event = Unit {0}
-
-abbrev pub AreUnsplit : List ServerEvent → Type 0
-AreUnsplit [] = Unit {0}
-AreUnsplit (event ∷ earlier) = IsUnsplit event × AreUnsplit earlier
 
 -- The map gives the number of a range to neither of the two that a split makes, and its streams are built of no other's.
 abbrev pub IsOfOthers : ℕ → ActorId → Body → Type 0

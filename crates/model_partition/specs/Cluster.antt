@@ -130,16 +130,6 @@ abbrev pub AreUnmerged : List Event → Type 0
 AreUnmerged [] = Unit {0}
 AreUnmerged (event ∷ events) = IsUnmerged event × AreUnmerged events
 
--- no range is split, nor are two merged
-abbrev pub IsUnsplit : Event → Type 0
-IsUnsplit (Split server range key) = ⊥
-IsUnsplit (Merge server left right) = ⊥
-IsUnsplit event = Unit {0}
-
-abbrev pub AreUnsplit : List Event → Type 0
-AreUnsplit [] = Unit {0}
-AreUnsplit (event ∷ events) = IsUnsplit event × AreUnsplit events
-
 -- so many nodes and servers, extents that take appends below the target, and groups of at most so many transactions
 abbrev pub first_cluster : ℕ → ℕ → ℕ → ℕ → Cluster
 first_cluster nodes servers target batch =

@@ -1,5 +1,5 @@
 -- What two ranges that are merged come to: keys, indexes, and regions of a log that is their logs one after the other.
-use Rattle.std.specs.Prelude.{ℕ, ◌+◌, ◌-◌, ◌^◌, Bool, true, ◌&&◌, nat_lt, nat_le, List, [], ◌∷◌, ◌++◌, length, map, Option, Some, None, if◌then◌else◌}
+use Rattle.std.specs.Prelude.{ℕ, ◌+◌, ◌-◌, ◌^◌, Bool, true, ◌&&◌, nat_lt, nat_le, List, [], ◌∷◌, ◌++◌, length, map, reverse, Option, Some, None, if◌then◌else◌}
 use Rattle.std.specs.List.{list_all}
 use Rattle.std.specs.Cmp.Lexicographic.{slice_cmp}
 use Rattle.std.specs.Ordering.{nat_cmp, is_lt}
@@ -42,12 +42,13 @@ meet keys others = record { low = later_low keys.low others.low; high = earlier_
 abbrev pub cut_index : KeyRange → IndexRange → IndexRange
 cut_index keys i = record i { keys = meet i.keys keys }
 
+-- as a record names them, the oldest first
 abbrev pub cut_indexes : MetadataState → List IndexRange
-cut_indexes said = map (cut_index said.keys) said.indexes
+cut_indexes said = reverse (map (cut_index said.keys) said.indexes)
 
--- those of the left range are the older ones; the newest stands first
+-- those of the left range, then those of the right one
 abbrev pub joined_indexes : RangeState → RangeState → List IndexRange
-joined_indexes l r = cut_indexes r.said ++ cut_indexes l.said
+joined_indexes l r = cut_indexes l.said ++ cut_indexes r.said
 
 -- ---- regions
 

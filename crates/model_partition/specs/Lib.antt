@@ -3,6 +3,7 @@ pub mod Answering
 pub mod Getting
 pub mod CheckpointStates
 pub mod Checkpoints
+pub mod ControlJobs
 pub mod Splits
 pub mod JoinedRanges
 pub mod Merges

@@ -3,7 +3,7 @@
 -- none waits there any more; the last extents of their logs and of their row data are sealed; the log, the row data and the blob data
 -- of the new range are built from those of the two, the left one's first; its metadata is made, and its keys and then its indexes and
 -- regions are appended to that; and the map puts the new range in the place of the two, which go.
-use Rattle.std.specs.Prelude.{ℕ, suc, max, Bool, false, not, ◌||◌, ◌&&◌, ◌==◌, nat_lt, ◌+◌, List, [], ◌∷◌, ◌++◌, length, Option, Some, None, option_to_list, is_some, if◌then◌else◌}
+use Rattle.std.specs.Prelude.{ℕ, suc, max, ◌^◌, Bool, false, not, ◌||◌, ◌&&◌, ◌==◌, nat_lt, ◌+◌, List, [], ◌∷◌, ◌++◌, length, Option, Some, None, option_to_list, is_some, if◌then◌else◌}
 use Rattle.wire.specs.declared.actor.ActorId.TheVariants.{Manager, Map}
 use Rattle.wire.specs.declared.actor.ReqNo.{ReqNo}
 use Rattle.wire.specs.declared.body.AppendBody.{AppendBody}
@@ -35,10 +35,11 @@ use Rattle.model_partition.specs.declared.checkpoint_job.CheckpointPhase.{Checkp
 use Rattle.model_partition.specs.declared.checkpoint_job.CheckpointPhase.TheVariants as checkpoints
 use Rattle.model_partition.specs.declared.pause.Pause.TheVariants as pauses
 use Rattle.model_partition.specs.declared.server_context.ServerContext.{ServerContext}
-use Rattle.model_partition.specs.Range.{RangeState, RangeOutcome, request, tells, given, picking, refused_gets, is_serving, is_paused}
+use Rattle.model_partition.specs.Range.{RangeState, RangeOutcome, request, tells, answers, given, picking, refused_gets, refused_users, is_serving, is_paused}
 use Rattle.model_partition.specs.MapRules.{is_beside}
 use Rattle.model_partition.specs.CheckpointStates.{CheckpointState}
 use Rattle.model_partition.specs.Checkpoints.{begins, trim_awaits, trimmed}
+use Rattle.model_partition.specs.ControlJobs.{give_up_control}
 use Rattle.model_partition.specs.Splits.{may_checkpoint, is_drained, extents_of, open_last, is_extent, seal_packet, seal_again, with_last_sealed, has_number}
 use Rattle.model_partition.specs.declared.merge_job.MergeJob.{MergeJob}
 use Rattle.model_partition.specs.declared.merge_job.MergePhase.{MergePhase}
@@ -78,10 +79,10 @@ parts d l r = record { left = Some l; right = Some r; job = None; count = d.coun
 abbrev pub freed : RangeState → RangeState
 freed r = record r { pause = if is_paused r.pause then pauses.On else pauses.Off }
 
--- one of the two goes, which is paused, and the merge with it
+-- one of the two goes, whose waiting users are told so, and the merge with it; the other is served on, or stays paused
 abbrev pub loses : ServerContext → RangeState → RangeState → MergeSide → MergeStep
-loses d l r Left = record { left = None; right = Some (freed r); job = None; count = suc d.count; packets = refused_gets d l }
-loses d l r Right = record { left = Some (freed l); right = None; job = None; count = suc d.count; packets = refused_gets d r }
+loses d l r Left = record { left = None; right = Some (freed r); job = None; count = suc d.count; packets = refused_users d l }
+loses d l r Right = record { left = Some (freed l); right = None; job = None; count = suc d.count; packets = refused_users d r }
 
 abbrev pub with_phase : MergeJob → MergePhase → MergeJob
 with_phase job phase = record job { phase = phase }
@@ -317,8 +318,9 @@ phase_awaits (phases.Create q) w = is_same q w
 phase_awaits (phases.Write what c) w = awaits c.job w
 phase_awaits (phases.Complete q) w = is_same q w
 
--- that the map does not begin the merge ends it
+-- An old generation drops the left range, for which the map was asked; that the map does not begin the merge ends it.
 abbrev pub begin_refused : ServerContext → RangeState → RangeState → MergeJob → Refusal → MergeStep
+begin_refused d l r job refusals.Stale = loses d l r Left
 begin_refused d l r job refusals.NotOwner = parts d l r
 begin_refused d l r job refusals.NotAdjacent = parts d l r
 begin_refused d l r job refusals.GenerationChanged = parts d l r
@@ -433,15 +435,42 @@ write_again d l r job what c =
     goes d l r (with_phase job (phases.Write what o.after)) (option_to_list o.packet)
 
 -- what is not answered is asked again under its number, but for an append, which takes the next one
-abbrev pub gives_up_in : ServerContext → RangeState → RangeState → MergeJob → MergePhase → MergeStep
-gives_up_in d l r job (phases.Begin q) = goes d l r job (begin_packet d job q ∷ [])
-gives_up_in d l r job (phases.Seal side kind q) = goes d l r job (seal_again d (open_part l r side kind) q)
-gives_up_in d l r job (phases.Build q) = goes d l r job (build_packet d job q ∷ [])
-gives_up_in d l r job (phases.Create q) = goes d l r job (create_packet d job q ∷ [])
-gives_up_in d l r job (phases.Write what c) = write_again d l r job what c
-gives_up_in d l r job (phases.Complete q) = goes d l r job (complete_packet d job q ∷ [])
-gives_up_in d l r job phase = stays d l r job
+abbrev pub asks_again_in : ServerContext → RangeState → RangeState → MergeJob → MergePhase → MergeStep
+asks_again_in d l r job (phases.Begin q) = goes d l r job (begin_packet d job q ∷ [])
+asks_again_in d l r job (phases.Seal side kind q) = goes d l r job (seal_again d (open_part l r side kind) q)
+asks_again_in d l r job (phases.Build q) = goes d l r job (build_packet d job q ∷ [])
+asks_again_in d l r job (phases.Create q) = goes d l r job (create_packet d job q ∷ [])
+asks_again_in d l r job (phases.Write what c) = write_again d l r job what c
+asks_again_in d l r job (phases.Complete q) = goes d l r job (complete_packet d job q ∷ [])
+asks_again_in d l r job phase = stays d l r job
 
 -- without a number for its request nothing is asked
-abbrev pub gives_up : ServerContext → RangeState → RangeState → MergeJob → MergeStep
-gives_up d l r job = if has_number d then gives_up_in d l r job job.phase else stays d l r job
+abbrev pub asks_again : ServerContext → RangeState → RangeState → MergeJob → MergeStep
+asks_again d l r job = if has_number d then asks_again_in d l r job job.phase else stays d l r job
+
+-- The range that makes its checkpoint while the other one is told to give up. Where it is that one itself, its checkpoint has given up
+-- with all else that it waits for.
+abbrev pub other_checkpoint : MergePhase → MergeSide → Option MergeSide
+other_checkpoint (phases.Checkpoint Left) Right = Some Left
+other_checkpoint (phases.Checkpoint Right) Left = Some Right
+other_checkpoint phase told = None
+
+-- whether the server has the numbers of a checkpoint that gives up
+abbrev pub has_numbers_again : ServerContext → Bool
+has_numbers_again d = nat_lt (d.count + 3) (2 ^ 64)
+
+-- without these it does not
+abbrev pub checkpoint_again : ServerContext → RangeState → RangeOutcome
+checkpoint_again d r = if has_numbers_again d then give_up_control d r else answers d r []
+
+abbrev pub checkpoint_gives_up : ServerContext → RangeState → RangeState → MergeJob → MergeSide → MergeStep
+checkpoint_gives_up d l r job Left = left_checkpointed (checkpoint_again d l) r job
+checkpoint_gives_up d l r job Right = right_checkpointed (checkpoint_again d r) l job
+
+abbrev pub gives_up_with : ServerContext → RangeState → RangeState → MergeJob → Option MergeSide → MergeStep
+gives_up_with d l r job None = asks_again d l r job
+gives_up_with d l r job (Some side) = checkpoint_gives_up d l r job side
+
+-- the merge gives up once, whichever of its ranges was told to
+abbrev pub gives_up : ServerContext → RangeState → RangeState → MergeJob → MergeSide → MergeStep
+gives_up d l r job told = gives_up_with d l r job (other_checkpoint job.phase told)

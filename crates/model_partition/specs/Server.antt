@@ -407,17 +407,18 @@ abbrev pub given_up_with : ServerState → ℕ → Option SplitJob → RangeOutc
 given_up_with s range None o = stepped_alone s range o
 given_up_with s range (Some job) o = given_up_splitting s range job o o.after
 
-abbrev pub give_up_both : ServerState → ℕ → MergeJob → Option TwoRanges → ServerOutcome
-give_up_both s left job None = rests s
-give_up_both s left job (Some two) = merge_stepped s left job (merges.gives_up s.context two.0 two.1 job)
+abbrev pub give_up_both : ServerState → ℕ → MergeJob → MergeSide → Option TwoRanges → ServerOutcome
+give_up_both s left job side None = rests s
+give_up_both s left job side (Some two) = merge_stepped s left job (merges.gives_up s.context two.0 two.1 job side)
 
-abbrev pub merge_gives_up : ServerState → ℕ → MergeJob → ServerOutcome
-merge_gives_up s left job = give_up_both s left job (both_of s.ranges job)
+-- what a merge of which this range was told to give up does
+abbrev pub merge_gives_up : ℕ → ServerState → ℕ → MergeJob → ServerOutcome
+merge_gives_up range s left job = give_up_both s left job (side_of_range job range) (both_of s.ranges job)
 
--- and so does the merge of two, once for either of them
+-- and so does the merge of two, once for either of them: also where the other one makes its checkpoint
 abbrev pub given_up_merging : ServerState → ℕ → ℕ → Option MergeJob → RangeOutcome → ServerOutcome
 given_up_merging s range left None o = given_up_with s range (split_of s.splits range) o
-given_up_merging s range left (Some job) o = merged_behind o (stepped_alone s range o) left job o.after merge_gives_up
+given_up_merging s range left (Some job) o = merged_behind o (stepped_alone s range o) left job o.after (merge_gives_up range)
 
 abbrev pub given_up : ServerState → ℕ → Option ℕ → RangeOutcome → ServerOutcome
 given_up s range None o = given_up_with s range (split_of s.splits range) o

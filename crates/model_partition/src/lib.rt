@@ -3,7 +3,7 @@
 //! This crate has no code but the plain values that states are made of, the number of a server's next request, the packets of
 //! reads, and what a client makes of an answer; it touches nothing. Its definitions stand in specs/:
 //! - Past: what a table that is loaded again must be, said of observations alone (`Replays`).
-//! - Range, PlaceReads, Loading, Serving, Getting, Checkpoints, Answering, Splits, Merges, JoinedRanges and Server: the table of a
+//! - Range, PlaceReads, Loading, Serving, Getting, Checkpoints, Answering, ControlJobs, Splits, Merges, JoinedRanges and Server: the table of a
 //!   server, as functions of its state.
 //! - Servers: the servers of a run, and what a loaded table shows.
 //! - Map: the partition map, its ranges in the order of their keys, and what changes them: assignments, renewals, splits and
@@ -42,7 +42,7 @@ pub use map_record::MapRecord;
 pub use merge_job::{MergeJob, MergePhase, MergeRecord, MergeSide};
 pub use pause::Pause;
 pub use pending::Pending;
-pub use place_reads::{is_at, is_same, moved_on, places_of, reads_page, reads_place};
+pub use place_reads::{is_at, moved_on, places_of, reads_page, reads_place};
 pub use progress::{Progress, Service};
 pub use range_content::RangeContent;
 pub use range_entry::RangeEntry;

@@ -1,7 +1,6 @@
 //! Reads of what stands at a place, and whose answer a packet is.
 ghost use Rattle.std.specs.Prelude.{◌≡◌, ◌++◌};
 ghost use Rattle.client.specs.Client.{node_at as node_of, next_place as place_behind};
-ghost use Rattle.client.specs.Requests.{is_same as are_same};
 ghost use Rattle.model_partition.specs.PlaceReads as specs;
 
 use crate::server_context::ServerContext;
@@ -9,41 +8,7 @@ use crate::waiting::PlaceRead;
 use block_types::Nodes;
 use client::Place as Replica;
 use memtable::Place;
-use wire::{ActorId, Body, ExtentId, Packet, ReadBody, ReqNo, StreamExtent};
-
-/// Whether two numbers name one request.
-pub fn is_same(one: &ReqNo, other: &ReqNo) -> bool
-    ensures { result ≡ are_same one.now other.now }
-{
-    match one {
-        ReqNo::Server {
-            server,
-            session,
-            count,
-        } => match other {
-            ReqNo::Server {
-                server: to,
-                session: of,
-                count: number,
-            } => server.0 == to.0 && *session == *of && *count == *number,
-            ReqNo::User { .. } => false,
-            ReqNo::NoRequest => false,
-        },
-        ReqNo::User { user, ticket } => match other {
-            ReqNo::Server { .. } => false,
-            ReqNo::User {
-                user: of,
-                ticket: number,
-            } => *user == *of && *ticket == *number,
-            ReqNo::NoRequest => false,
-        },
-        ReqNo::NoRequest => match other {
-            ReqNo::Server { .. } => false,
-            ReqNo::User { .. } => false,
-            ReqNo::NoRequest => true,
-        },
-    }
-}
+use wire::{ActorId, Body, ExtentId, Packet, ReadBody, StreamExtent};
 
 /// Whether the read that is out is that of a page, which a checkpoint merges, and not that of an index.
 pub fn reads_page(reading: &Option<PlaceRead>) -> bool

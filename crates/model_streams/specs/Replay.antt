@@ -1,5 +1,5 @@
 -- The catalog that the manager's records make.
-use Rattle.std.specs.Prelude.{◌≡◌, ℕ, ◌+◌, Bool, true, false, not, ◌&&◌, List, [], ◌∷◌, length, Option, Some, None, ◌==◌, nat_lt}
+use Rattle.std.specs.Prelude.{ℕ, ◌+◌, Bool, true, false, not, ◌&&◌, List, [], ◌∷◌, length, Option, Some, None, ◌==◌, nat_lt}
 use Rattle.block_types.specs.declared.record.Nodes.{Nodes}
 use Rattle.block_types.specs.declared.record.Record.{Record}
 use Rattle.block_types.specs.declared.record.Record.TheVariants.{Manage}
@@ -96,11 +96,3 @@ fit_from b (r ∷ rs) = manager_record_fits b (manager_record_of r) && fit_from 
 -- each record fits the catalog that those before it make
 abbrev pub catalog_fits : List Record → Bool
 catalog_fits rs = fit_from None rs
-
--- two catalogs that say the same
-pub record SameCatalog (a b : Catalog) : Type 0 where
-  pub nodes : a.nodes ≡ b.nodes
-  pub target : a.target ≡ b.target
-  pub count : a.count ≡ b.count
-  pub stream : (range kind : ℕ) → a.stream range kind ≡ b.stream range kind
-  pub extent : (e : ℕ) → a.extent e ≡ b.extent e

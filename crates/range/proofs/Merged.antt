@@ -1,5 +1,5 @@
 -- Steps of ranges of a merge, which goes on or ends behind them.
-use Rattle.std.proofs.Common.{◌≡◌, ℕ, Bool, true, false, List, [], Option, Some, None, refl, ap, sym, ◌∙◌, ◌==◌}
+use Rattle.std.proofs.Common.{◌≡◌, ℕ, Bool, true, false, List, [], ◌++◌, Option, Some, None, refl, ap, sym, ◌∙◌, ◌==◌}
 use Rattle.std.specs.Prelude.{is_some, if◌then◌else◌}
 use Rattle.std.specs.BTreeMap.{is_at}
 use Rattle.std.specs.List.Sorted.{IsStrictlySortedBy}
@@ -16,18 +16,19 @@ use Rattle.model_partition.specs.declared.server_context.ServerContext.{ServerCo
 use Rattle.model_partition.specs.declared.split_job.SplitJob.{SplitJob}
 use Rattle.model_partition.specs.declared.table_note.TableNote.{TableNote}
 use Rattle.model_partition.specs.Answering.{answer_rule}
-use Rattle.model_partition.specs.Merges.{MergeStep, follows, follows_in, gives_up, left_ends, merge_reply, stays}
-use Rattle.model_partition.specs.Range.{RangeState, RangeOutcome}
-use Rattle.model_partition.specs.Server.{ServerState, ServerOutcome, TwoRanges, answer_at, answer_ending, answer_in, answer_of, answered_both, assigned_merging, awaiting, both_of, follows_both, give_up_both, given_up, given_up_merging, left_ended, merge_answer_in, merge_follows, merge_gives_up, merge_of, merge_stepped, merge_with, merged_behind, range_of, rests, set_merge, set_range, side_of_range, split_of, stepped, stepped_in, stepped_merging}
+use Rattle.model_partition.specs.ControlJobs.{give_up_control}
+use Rattle.model_partition.specs.Merges.{MergeStep, asks_again, checkpoint_again, checkpoint_gives_up, follows, follows_in, gives_up_with, has_numbers_again, left_checkpointed, left_ends, merge_reply, other_checkpoint, right_checkpointed, side_of, stays}
+use Rattle.model_partition.specs.Range.{RangeState, RangeOutcome, answers}
+use Rattle.model_partition.specs.Server.{ServerState, ServerOutcome, TwoRanges, answer_at, answer_ending, answer_in, answer_of, answered_both, assigned_merging, awaiting, both_of, follows_both, give_up_both, given_up, given_up_merging, left_ended, merge_answer_in, merge_follows, merge_gives_up, merge_of, merge_stepped, merge_with, merged_behind, range_of, rests, set_merge, set_range, side_of_range, split_of, stepped, stepped_alone, stepped_in, stepped_merging}
 use Rattle.model_partition.specs.Splits.{has_number}
 use Rattle.range_core.specs.Steps.{RangeStep, unless}
 use Rattle.range_core.specs.Steps.{outcome as step_of}
 use Rattle.range_merge.specs.Rooms.{room_of}
-use Rattle.range_merge.specs.Steps.{MergeTaken, behind, outcome, paused_if}
+use Rattle.range_merge.specs.Steps.{MergeTaken, behind, behind_step, outcome, paused_if}
 use Rattle.std.proofs.lemmas.List.{append-nil}
-use Rattle.range.specs.ServerStep.{IsMergeStep, Sent, behind_sent, both_set, follows_at, gives_up_at, merge_room, ranges_left, trim_of}
+use Rattle.range.specs.ServerStep.{IsMergeStep, Sent, asks_at, asks_both, behind_sent, both_set, follows_at, gives_up_at, merge_room, ranges_left, trim_of}
 use Rattle.range.specs.ServerStep.{outcome as server_outcome}
-use Rattle.range.proofs.BothRanges.{both_held, both_known, both_same, both_there, some_same}
+use Rattle.range.proofs.BothRanges.{both_held, both_known, both_same, both_there, right_found, some_same}
 use Rattle.range.proofs.Entries.{found_again, inserted_in_place, removed_after, set_same}
 use Rattle.range.proofs.Settled.{alone_after, apart_after, given_up_apart_after, with_count, with_range}
 
@@ -48,7 +49,7 @@ stepped_after s range r o = in_after s range r o (merge_with s.merges range)
 given_up_merging_after : (s : ServerState) (range left : ℕ) (r : RangeState) (o : RangeOutcome) (job : Option MergeJob)
     → given_up_merging (with_range s range r) range left job o ≡ given_up_merging s range left job o
 given_up_merging_after s range left r o None = given_up_apart_after s range r o (split_of s.splits range)
-given_up_merging_after s range left r o (Some job) = ap (λ t. merged_behind o t left job o.after merge_gives_up) (alone_after s range r o)
+given_up_merging_after s range left r o (Some job) = ap (λ t. merged_behind o t left job o.after (merge_gives_up range)) (alone_after s range r o)
 
 pub given_up_after : (s : ServerState) (range : ℕ) (r : RangeState) (o : RangeOutcome) (left : Option ℕ)
     → given_up (with_range s range r) range left o ≡ given_up s range left o
@@ -95,13 +96,13 @@ merged_on s range left (Some job) t r sent notes there known held same_packets s
 
 pub given_up_merged_on : (s : ServerState) (range left : ℕ) (job : Option MergeJob) (t : RangeStep) (r : RangeState) (sent : List Packet) (notes : List TableNote)
     → is_some job ≡ true → range_of s.ranges range ≡ Some r → t.dropped ≡ false → sent ≡ t.packets → notes ≡ t.notes
-    → given_up_merging s range left job (step_of t r) ≡ behind_sent sent notes (gives_up_at (with_count s t.count) left job)
+    → given_up_merging s range left job (step_of t r) ≡ behind_sent sent notes (gives_up_at range (with_count s t.count) left job)
 given_up_merged_on s range left None t r sent notes there known held same_packets same_notes = absurd cc
 given_up_merged_on s range left (Some job) t r sent notes there known held same_packets same_notes =
     ap (λ x. given_up_merging s range left (Some job) (ended t r x)) held
-    ∙ ap (λ rs. behind_sent t.packets t.notes (merge_gives_up (record s { context = record s.context { count = t.count }; ranges = rs }) left job))
+    ∙ ap (λ rs. behind_sent t.packets t.notes (merge_gives_up range (record s { context = record s.context { count = t.count }; ranges = rs }) left job))
     (set_same (is_at (nat_cmp range)) s.ranges r known)
-    ∙ behind_same sent t.packets notes t.notes (merge_gives_up (with_count s t.count) left job) same_packets same_notes
+    ∙ behind_same sent t.packets notes t.notes (merge_gives_up range (with_count s t.count) left job) same_packets same_notes
 
 -- ---- where nothing may come of a merge
 
@@ -215,10 +216,10 @@ none_follows s range left job js sent notes here set none =
 
 pub none_asked : (s : ServerState) (left : ℕ) (job : MergeJob) (js : List (ℕ × MergeJob)) (sent : List Packet) (notes : List TableNote)
     → merge_of s.merges left ≡ Some job → js ≡ set_value (is_at (nat_cmp left)) s.merges job → both_of s.ranges job ≡ None
-    → behind_sent sent notes (gives_up_at s left (merge_of s.merges left)) ≡ sends_these s js sent notes
+    → behind_sent sent notes (asks_at s left (merge_of s.merges left)) ≡ sends_these s js sent notes
 none_asked s left job js sent notes here set none =
-    ap (λ x. behind_sent sent notes (gives_up_at s left x)) here
-    ∙ ap (λ x. behind_sent sent notes (give_up_both s left job x)) none
+    ap (λ x. behind_sent sent notes (asks_at s left x)) here
+    ∙ ap (λ x. behind_sent sent notes (asks_both s left job x)) none
     ∙ these_sent s left job js sent notes here set
 
 left_as : (s after : ServerState) (left : ℕ) (notes : List TableNote) (rs : List (ℕ × RangeState)) (job : MergeJob) (js : List (ℕ × MergeJob)) (count told : ℕ) (packets sent : List Packet)
@@ -253,17 +254,139 @@ pub asked_merge : (s : ServerState) (left : ℕ) (old job : MergeJob) (js : List
     (count : ℕ) (packets : List Packet)
     → IsStrictlySortedBy nat_cmp (keys_of s.merges) → merge_of s.merges left ≡ Some old → js ≡ set_value (is_at (nat_cmp left)) s.merges job
     → old.left == old.right ≡ false → range_of s.ranges old.left ≡ Some l → range_of s.ranges old.right ≡ Some r
-    → behind sent (gives_up s.context l r old) ≡ outcome t l r job
+    → behind sent (asks_again s.context l r old) ≡ outcome t l r job
     → t.left_dropped ≡ false → t.right_dropped ≡ false → t.ended ≡ false → count ≡ t.count → packets ≡ t.packets
-    → behind_sent sent notes (gives_up_at s left (merge_of s.merges left))
+    → behind_sent sent notes (asks_at s left (merge_of s.merges left))
     ≡ record { after = record s { context = record s.context { count = count }; merges = js }; packets = packets; notes = notes }
 asked_merge s left old job js l r sent notes t count packets sorted here set apart low high is left_held right_held under_way same_count same_packets =
-    ap (λ x. behind_sent sent notes (gives_up_at s left x)) here
-    ∙ ap (λ x. behind_sent sent notes (give_up_both s left old x)) (both_held s.ranges old l r apart low high)
+    ap (λ x. behind_sent sent notes (asks_at s left x)) here
+    ∙ ap (λ x. behind_sent sent notes (asks_both s left old x)) (both_held s.ranges old l r apart low high)
     ∙ ap (settled s left old notes) is
     ∙ all_left s left notes t.left_dropped t.right_dropped t.ended t.count t.packets l r old job sorted here left_held right_held under_way
     ∙ ap (λ rs. left_so s left notes rs job t.count t.packets) (both_same s.ranges old.left old.right l r low high)
     ∙ left_as s (record s { context = record s.context { count = count }; merges = js }) left notes s.ranges job js t.count count t.packets packets set same_count same_packets refl
+
+-- ---- a range of a merge was told to give up
+
+-- the merge waits itself
+itself_in : (s : ServerState) (left : ℕ) (job : MergeJob) (told : MergeSide) (two : Option TwoRanges) → other_checkpoint job.phase told ≡ None
+    → give_up_both s left job told two ≡ asks_both s left job two
+itself_in s left job told None none = refl
+itself_in s left job told (Some two) none = ap (λ x. merge_stepped s left job (gives_up_with s.context two.0 two.1 job x)) none
+
+pub asked_itself : (s after : ServerState) (range left : ℕ) (job : MergeJob) (sent packets : List Packet) (notes : List TableNote) → merge_of s.merges left ≡ Some job
+    → other_checkpoint job.phase (side_of_range job range) ≡ None
+    → behind_sent sent notes (asks_at s left (merge_of s.merges left)) ≡ record { after = after; packets = packets; notes = notes }
+    → behind_sent sent notes (gives_up_at range s left (merge_of s.merges left)) ≡ record { after = after; packets = packets; notes = notes }
+asked_itself s after range left job sent packets notes here none so =
+    ap (λ x. behind_sent sent notes (gives_up_at range s left x)) here
+    ∙ ap (behind_sent sent notes) (itself_in s left job (side_of_range job range) (both_of s.ranges job) none)
+    ∙ ap (λ x. behind_sent sent notes (asks_at s left x)) (sym here)
+    ∙ so
+
+-- the checkpoint of a range that is held leaves it so
+pub checkpoint_so : (s : ServerState) (range : ℕ) (old new : RangeState) (rs : List (ℕ × RangeState)) (sent packets : List Packet) (t : MergeTaken) (count : ℕ)
+    → range_of s.ranges range ≡ Some old → rs ≡ set_value (is_at (nat_cmp range)) s.ranges new
+    → behind_step sent (checkpoint_again s.context old) ≡ record { after = Some new; count = t.count; packets = t.packets; notes = [] }
+    → count ≡ t.count → packets ≡ t.packets
+    → (r : RangeState) (notes : List TableNote) → range_of s.ranges range ≡ Some r
+    → behind_sent sent notes (stepped_alone s range (checkpoint_again s.context r))
+    ≡ record { after = record s { context = record s.context { count = count }; ranges = rs }; packets = packets; notes = notes }
+checkpoint_so s range old new rs sent packets t count here set so same_count same_packets r notes known =
+    ap (λ x. behind_sent sent notes (stepped_alone s range (checkpoint_again s.context x))) (some_same r old (sym known ∙ here))
+    ∙ (λ i. record {
+      after = record s { context = record s.context { count = (so i).count }; ranges = set_range s.ranges range (so i).after };
+      packets = (so i).packets;
+      notes = notes;
+    })
+    ∙ (λ i. record {
+      after = record s { context = record s.context { count = sym same_count i }; ranges = sym set i };
+      packets = sym same_packets i;
+      notes = notes;
+    })
+
+stays_held : (b : Bool) (d : ServerContext) (r : RangeState) → (x : RangeState) × ((if b then give_up_control d r else answers d r []).after ≡ Some x)
+stays_held true d r = (_, refl)
+stays_held false d r = (r, refl)
+
+-- the merge is kept as it is, and so is the other range
+left_alone : (s : ServerState) (left : ℕ) (job : MergeJob) (o : RangeOutcome) (x r : RangeState) (sent : List Packet) (notes : List TableNote)
+    → IsStrictlySortedBy nat_cmp (keys_of s.merges) → merge_of s.merges left ≡ Some job → job.left == job.right ≡ false → range_of s.ranges job.right ≡ Some r → o.after ≡ Some x
+    → behind_sent sent notes (merge_stepped s left job (left_checkpointed o r job)) ≡ behind_sent sent notes (stepped_alone s job.left o)
+left_alone s left job o x r sent notes sorted here apart high after =
+    let kept : set_range (set_range s.ranges job.left (Some x)) job.right (Some r) ≡ set_range s.ranges job.left (Some x) =
+    set_same (is_at (nat_cmp job.right)) (set_value (is_at (nat_cmp job.left)) s.ranges x) r (right_found s.ranges job.left job.right x apart ∙ high) in
+    let ranges : set_range (set_range s.ranges job.left o.after) job.right (Some r) ≡ set_range s.ranges job.left o.after =
+    ap (λ a. set_range (set_range s.ranges job.left a) job.right (Some r)) after ∙ kept ∙ ap (set_range s.ranges job.left) (sym after) in
+    let merges : set_merge s.merges left (Some job) ≡ s.merges = inserted_in_place left s.merges job job sorted here ∙ set_same (is_at (nat_cmp left)) s.merges job here in
+    λ i. record {
+      after = record s { context = record s.context { count = o.count }; ranges = ranges i; merges = merges i };
+      packets = sent ++ o.packets;
+      notes = notes;
+    }
+
+right_alone : (s : ServerState) (left : ℕ) (job : MergeJob) (o : RangeOutcome) (l : RangeState) (sent : List Packet) (notes : List TableNote)
+    → IsStrictlySortedBy nat_cmp (keys_of s.merges) → merge_of s.merges left ≡ Some job → range_of s.ranges job.left ≡ Some l
+    → behind_sent sent notes (merge_stepped s left job (right_checkpointed o l job)) ≡ behind_sent sent notes (stepped_alone s job.right o)
+right_alone s left job o l sent notes sorted here low =
+    let merges : set_merge s.merges left (Some job) ≡ s.merges = inserted_in_place left s.merges job job sorted here ∙ set_same (is_at (nat_cmp left)) s.merges job here in
+    λ i. record {
+      after = record s {
+        context = record s.context { count = o.count };
+        ranges = set_range (set_same (is_at (nat_cmp job.left)) s.ranges l low i) job.right o.after;
+        merges = merges i;
+      };
+      packets = sent ++ o.packets;
+      notes = notes;
+    }
+
+-- the number of the range of a side
+abbrev pub number_of : MergeJob → MergeSide → ℕ
+number_of job Left = job.left
+number_of job Right = job.right
+
+alone_on : (s : ServerState) (left : ℕ) (job : MergeJob) (l r : RangeState) (side : MergeSide) (sent : List Packet) (notes : List TableNote)
+    → IsStrictlySortedBy nat_cmp (keys_of s.merges) → merge_of s.merges left ≡ Some job → both_of s.ranges job ≡ Some (l, r)
+    → behind_sent sent notes (merge_stepped s left job (checkpoint_gives_up s.context l r job side))
+    ≡ behind_sent sent notes (stepped_alone s (number_of job side) (checkpoint_again s.context (side_of l r side)))
+alone_on s left job l r Left sent notes sorted here both =
+    let known = both_known s.ranges job l r both in
+    let stays = stays_held (has_numbers_again s.context) s.context l in
+    left_alone s left job (checkpoint_again s.context l) stays.0 r sent notes sorted here known.0 known.1.1 stays.1
+alone_on s left job l r Right sent notes sorted here both =
+    right_alone s left job (checkpoint_again s.context r) l sent notes sorted here (both_known s.ranges job l r both).1.0
+
+side_held : (rs : List (ℕ × RangeState)) (job : MergeJob) (l r : RangeState) (side : MergeSide) → both_of rs job ≡ Some (l, r) → range_of rs (number_of job side) ≡ Some (side_of l r side)
+side_held rs job l r Left both = (both_known rs job l r both).1.0
+side_held rs job l r Right both = (both_known rs job l r both).1.1
+
+-- the checkpoint of the other range gives up
+pub asked_other : (s after : ServerState) (range left : ℕ) (job : MergeJob) (side : MergeSide) (sent packets : List Packet) (notes : List TableNote)
+    → IsStrictlySortedBy nat_cmp (keys_of s.merges) → merge_of s.merges left ≡ Some job → is_some (both_of s.ranges job) ≡ true
+    → other_checkpoint job.phase (side_of_range job range) ≡ Some side
+    → ((r : RangeState) → range_of s.ranges (number_of job side) ≡ Some r
+    → behind_sent sent notes (stepped_alone s (number_of job side) (checkpoint_again s.context r)) ≡ record { after = after; packets = packets; notes = notes })
+    → behind_sent sent notes (gives_up_at range s left (merge_of s.merges left)) ≡ record { after = after; packets = packets; notes = notes }
+asked_other s after range left job side sent packets notes sorted here there other so =
+    let both = both_there s.ranges job there in
+    ap (λ x. behind_sent sent notes (gives_up_at range s left x)) here
+    ∙ ap (λ x. behind_sent sent notes (give_up_both s left job (side_of_range job range) x)) both.1
+    ∙ ap (λ x. behind_sent sent notes (merge_stepped s left job (gives_up_with s.context both.0.0 both.0.1 job x))) other
+    ∙ alone_on s left job both.0.0 both.0.1 side sent notes sorted here both.1
+    ∙ so (side_of both.0.0 both.0.1 side) (side_held s.ranges job both.0.0 both.0.1 side both.1)
+
+none_both : (s : ServerState) (left : ℕ) (job : MergeJob) (told : MergeSide) (two : Option TwoRanges) → is_some two ≡ false → give_up_both s left job told two ≡ rests s
+none_both s left job told None none = refl
+none_both s left job told (Some two) none = absurd cc
+
+-- where not both are held nothing does
+pub none_other : (s : ServerState) (range left : ℕ) (job : MergeJob) (sent : List Packet) (notes : List TableNote) → merge_of s.merges left ≡ Some job
+    → is_some (both_of s.ranges job) ≡ false
+    → behind_sent sent notes (gives_up_at range s left (merge_of s.merges left)) ≡ record { after = s; packets = sent; notes = notes }
+none_other s range left job sent notes here none =
+    ap (λ x. behind_sent sent notes (gives_up_at range s left x)) here
+    ∙ ap (behind_sent sent notes) (none_both s left job (side_of_range job range) (both_of s.ranges job) none)
+    ∙ (λ i. record { after = s; packets = append-nil sent i; notes = notes })
 
 -- ---- what an answer to a merge leaves
 

@@ -12,7 +12,7 @@ use Rattle.model_partition.specs.Answering.{answered_number}
 use Rattle.model_partition.specs.Range.{RangeState, RangeOutcome, used}
 use Rattle.model_partition.specs.Merges.{MergeStep}
 use Rattle.model_partition.specs.Merges as merges
-use Rattle.model_partition.specs.Server.{ServerState, ServerOutcome, merge_follows, merge_gives_up, merge_of, merge_with, rests, set_merge, set_range}
+use Rattle.model_partition.specs.Server.{ServerState, ServerOutcome, TwoRanges, both_of, merge_follows, merge_gives_up, merge_of, merge_stepped, merge_with, rests, set_merge, set_range}
 use Rattle.model_partition.specs.declared.merge_job.MergeJob.{MergeJob}
 use Rattle.model_partition.specs.declared.split_job.SplitJob.{SplitJob}
 use Rattle.range_core.specs.Steps.{RangeStep, unless}
@@ -73,10 +73,19 @@ abbrev pub follows_at : ℕ → ServerState → ℕ → Option MergeJob → Serv
 follows_at range s left None = rests s
 follows_at range s left (Some job) = merge_follows range s left job
 
--- what it asks again
-abbrev pub gives_up_at : ServerState → ℕ → Option MergeJob → ServerOutcome
-gives_up_at s left None = rests s
-gives_up_at s left (Some job) = merge_gives_up s left job
+-- what it does where one of its ranges was told to give up
+abbrev pub gives_up_at : ℕ → ServerState → ℕ → Option MergeJob → ServerOutcome
+gives_up_at range s left None = rests s
+gives_up_at range s left (Some job) = merge_gives_up range s left job
+
+-- what it asks again itself, if both ranges are held
+abbrev pub asks_both : ServerState → ℕ → MergeJob → Option TwoRanges → ServerOutcome
+asks_both s left job None = rests s
+asks_both s left job (Some two) = merge_stepped s left job (merges.asks_again s.context two.0 two.1 job)
+
+abbrev pub asks_at : ServerState → ℕ → Option MergeJob → ServerOutcome
+asks_at s left None = rests s
+asks_at s left (Some job) = asks_both s left job (both_of s.ranges job)
 
 -- what was sent and shown comes before
 abbrev pub behind_sent : List Packet → List TableNote → ServerOutcome → ServerOutcome

@@ -4,19 +4,23 @@ ghost use Rattle.std.specs.BTreeMap.{is_at};
 ghost use Rattle.std.specs.Map.{set_value};
 ghost use Rattle.std.specs.Ordering.{nat_cmp};
 ghost use Rattle.model_partition.specs.Range.{RangeState as RangeStateOf};
-ghost use Rattle.model_partition.specs.Merges.{pausing};
-ghost use Rattle.model_partition.specs.Server.{assigned, assigned_merging, given_up_merging, merge_of, merge_with, range_of, set_range, side_of_range, stepped_merging, with_freed};
+ghost use Rattle.model_partition.specs.Merges.{checkpoint_again, pausing};
+ghost use Rattle.model_partition.specs.Server.{assigned, assigned_merging, given_up_merging, merge_of, merge_with, range_of, set_range, side_of_range, stepped_alone, stepped_merging, with_freed};
 ghost use Rattle.model_partition.specs.declared.table_note.TableNote.{TableNote};
 ghost use Rattle.range_core.specs.Steps as steps;
 ghost use Rattle.range_merge.specs.Steps.{paused_if};
-ghost use Rattle.range.specs.ServerStep.{IsShort, behind_sent, both_set, follows_at, gives_up_at, merge_again, merge_room, outcome};
+ghost use Rattle.range.specs.ServerStep.{IsShort, asks_at, behind_sent, both_set, follows_at, gives_up_at, merge_again, merge_room, outcome};
 
+use crate::both_ranges::are_held;
 use crate::merge_jobs::merge_with;
 use crate::sent::Sent;
 use crate::server::RangeServer;
 use model_partition::{MergeJob, MergeSide};
 use range_core::RangeStep;
-use range_merge::{MergeFollowUp, MergeRoom, StepBehind, follow, free, give_up};
+use range_merge::{
+    MergeFollowUp, MergeRoom, StepBehind, follow, free, give_up, give_up_checkpoint,
+    other_checkpoint,
+};
 use wire::{Packet, RangeId};
 
 /// Which of the two of a merge a range is.
@@ -165,23 +169,37 @@ impl RangeServer {
         }
     }
 
-    /// What a merge asks again, behind a range that was not dropped, and sent these packets.
-    fn ask_merge_again(
+    /// The checkpoint that a range makes for its merge gives up, behind the other range, which was told to, and sent these packets.
+    fn ask_checkpoint_again(
         &mut self,
-        left: u64,
-        room: Option<MergeRoom>,
+        range: RangeId,
+        room: MergeRoom,
         sent: Vec<Packet>,
     ) -> Vec<Packet>
-        requires room { room ≡ merge_again (merge_of self.old.merges left) }
+        requires held { is_some (range_of self.old.ranges range) ≡ true }
         requires few { length sent.items ≤ 1400 }
-        ensures value { (notes : List TableNote) → behind_sent sent.items notes (gives_up_at self.old left (merge_of self.old.merges left))
+        ensures value { (r : RangeStateOf) (notes : List TableNote) → range_of self.old.ranges range ≡ Some r
+            → behind_sent sent.items notes (stepped_alone self.old range (checkpoint_again self.old.context r))
+            ≡ record { after = self.new; packets = result.items; notes = notes } }
+        ensures few { length result.items ≤ 1404 }
+    {
+        let Some(state) = self.ranges.get_mut(&range.0) else {
+            unreachable!()
+        };
+        let taken = give_up_checkpoint(&self.context, state, room, sent);
+        self.context.count = taken.count;
+        taken.packets
+    }
+
+    /// What the merge itself asks again, behind a range that was not dropped, and sent these packets.
+    fn ask_again_for(&mut self, left: u64, room: MergeRoom, sent: Vec<Packet>) -> Vec<Packet>
+        requires room { Some room ≡ merge_again (merge_of self.old.merges left) }
+        requires few { length sent.items ≤ 1400 }
+        ensures value { (notes : List TableNote) → behind_sent sent.items notes (asks_at self.old left (merge_of self.old.merges left))
             ≡ record { after = self.new; packets = result.items; notes = notes } }
         ensures few { length result.items ≤ 1401 }
     {
         let Some(job) = self.merges.get_mut(&left) else {
-            return sent;
-        };
-        let Some(room) = room else {
             return sent;
         };
         let (low, high) = (job.left, job.right);
@@ -197,6 +215,43 @@ impl RangeServer {
         let taken = give_up(&self.context, one, other, job, room, sent);
         self.context.count = taken.count;
         taken.packets
+    }
+
+    /// What a merge does behind a range that was told to give up, was not dropped, and sent these packets.
+    fn ask_merge_again(
+        &mut self,
+        range: u64,
+        left: u64,
+        room: Option<MergeRoom>,
+        sent: Vec<Packet>,
+    ) -> Vec<Packet>
+        requires room { room ≡ merge_again (merge_of self.old.merges left) }
+        requires few { length sent.items ≤ 1400 }
+        ensures value { (notes : List TableNote) → behind_sent sent.items notes (gives_up_at range self.old left (merge_of self.old.merges left))
+            ≡ record { after = self.new; packets = result.items; notes = notes } }
+        ensures few { length result.items ≤ 1404 }
+    {
+        // For the clause: the merges stand in the order of their numbers.
+        let _count = self.merges.len();
+        let Some(job) = self.merges.get(&left) else {
+            return sent;
+        };
+        let Some(room) = room else {
+            return sent;
+        };
+        let other = other_checkpoint(job, side_of(job, range));
+        let (low, high) = (job.left, job.right);
+        let are_both = are_held(&self.ranges, job);
+        let Some(side) = other else {
+            return self.ask_again_for(left, room, sent);
+        };
+        if !are_both {
+            return sent;
+        }
+        match side {
+            MergeSide::Left => self.ask_checkpoint_again(low, room, sent),
+            MergeSide::Right => self.ask_checkpoint_again(high, room, sent),
+        }
     }
 
     /// What giving up on what a range of a merge waits for leaves, and what the merge then asks again, with the room that was made before.
@@ -220,7 +275,7 @@ impl RangeServer {
         self.context.count = taken.count;
         let (packets, notes) = taken.into_parts();
         Sent {
-            packets: self.ask_merge_again(left, room, packets),
+            packets: self.ask_merge_again(range, left, room, packets),
             notes,
         }
     }

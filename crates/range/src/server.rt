@@ -456,7 +456,7 @@ impl RangeServer {
         if !has_numbers(&self.context) {
             return Ok(Sent::nothing(alloc));
         }
-        match state.checkpoint(alloc, &self.context, combine) {
+        match state.freeze(alloc, &self.context, combine) {
             Ok(taken) => Ok(self.settle(range.0, taken, StepRoom::nothing())),
             Err(_full) => Err(RangeFault::Memory),
         }

@@ -14,12 +14,10 @@ use Rattle.model_partition.specs.declared.checkpoint_job.CheckpointPhase.{Checkp
 use Rattle.model_partition.specs.declared.checkpoint_job.CheckpointPhase.TheVariants as phases
 use Rattle.model_partition.specs.declared.server_context.ServerContext.{ServerContext}
 use Rattle.model_partition.specs.CheckpointStates.{CheckpointState}
-use Rattle.model_partition.specs.Range.{RangeState, request, goes, picking, is_serving}
+use Rattle.model_partition.specs.Range.{RangeState, request, goes, picking}
 use Rattle.model_partition.specs.Loading.{Group}
-use Rattle.model_partition.specs.Answering.{metadata_reply}
-use Rattle.model_partition.specs.Checkpoints.{job_may_stand, may_record, next_append, pages_stand, record_stands, record_told, rows_go, rows_may_stand, rows_reply, rows_stand, rows_told}
+use Rattle.model_partition.specs.Checkpoints.{job_may_stand, may_record, next_append, pages_stand, record_stands, rows_go, rows_may_stand, rows_reply, rows_stand, rows_told}
 use Rattle.checkpoint.specs.PageGroups.{next_group}
-use Rattle.range_checkpoint.specs.declared.record_answers.Recorded.{Recorded}
 use Rattle.range_checkpoint.specs.declared.row_answers.NextStep.{NextStep}
 use Rattle.range_checkpoint.specs.Records as records
 use Rattle.range_checkpoint.specs.Steps.{appended, appended_by, appended_in, control_stands, goes_on, stands_in, with_rows}
@@ -128,7 +126,7 @@ rows_stood d r body e o y x is may known told next =
 
 -- ---- of the metadata
 
-phase_recorded : (d : ServerContext) (r : RangeState) (job : CheckpointState) (phase : CheckpointPhase) → record_stands d r job phase ≡ records.goes_on d r (records.recorded_in r.said job phase)
+pub phase_recorded : (d : ServerContext) (r : RangeState) (job : CheckpointState) (phase : CheckpointPhase) → record_stands d r job phase ≡ records.goes_on d r (records.recorded_in r.said job phase)
 phase_recorded d r job (phases.Record index) =
     elim (nat_lt (suc r.said.next) (2 ^ 64)) as (λ b. nat_lt (suc r.said.next) (2 ^ 64) ≡ b → record_stands d r job (phases.Record index) ≡ records.goes_on d r (records.recorded_in r.said job (phases.Record index))) [
       | true ↦ λ may. rw may refl
@@ -138,18 +136,3 @@ phase_recorded d r job phases.Combining = refl
 phase_recorded d r job phases.Pages = refl
 phase_recorded d r job phases.Index = refl
 phase_recorded d r job (phases.Trim before to_blob q) = refl
-
-control_recorded : (d : ServerContext) (r : RangeState) (job : Option CheckpointState) (e o : ℕ) → record_told d r job (Some (news.Appended e o)) [] ≡ records.goes_on d r (records.recorded_of r.said job)
-control_recorded d r None e o = refl
-control_recorded d r (Some job) e o = phase_recorded d r job job.phase
-
--- what the record leaves is there, and the log is to be trimmed
-pub record_stood : (d : ServerContext) (r : RangeState) (body : Body) (at : ℕ × ℕ) (y : Outcome) (x : Option Recorded) → is_serving r.stage ≡ true → appended r.metadata body ≡ Some at →
-    reply_rule (picking d r.metadata) (request d) body ≡ y → records.recorded_of r.said r.control ≡ x →
-    metadata_reply d r body ≡ records.goes_on d (record r { metadata = y.after }) x
-record_stood d r body at y x serving is told left =
-    let ended : y ≡ ends (picking d r.metadata) (news.Appended at.0 at.1) = sym told ∙ stood (picking d r.metadata) (request d) body at.0 at.1 is in
-    rw serving (ap (λ (z : Outcome). record_told d (record r { metadata = z.after }) r.control z.news (option_to_list z.packet)) told
-    ∙ ap (λ (z : Outcome). record_told d (record r { metadata = y.after }) r.control z.news (option_to_list z.packet)) ended
-    ∙ control_recorded d (record r { metadata = y.after }) r.control at.0 at.1
-    ∙ ap (λ (z : Option Recorded). records.goes_on d (record r { metadata = y.after }) z) left)

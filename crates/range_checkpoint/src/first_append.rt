@@ -1,5 +1,5 @@
 //! How a checkpoint begins.
-ghost use Rattle.std.specs.Prelude.{◌≡◌, None, IfOk, OnErr};
+ghost use Rattle.std.specs.Prelude.{◌≡◌, None, true, IfOk, OnErr};
 ghost use Rattle.checkpoint.specs.Merges.{LeadsTo, with_at_hand};
 ghost use Rattle.model_partition.specs.Checkpoints as rules;
 ghost use Rattle.model_partition.specs.Getting.{held_at};
@@ -9,15 +9,13 @@ ghost use Rattle.range_checkpoint.specs.Combining as specs;
 
 use crate::appends::NextAppend;
 use crate::merging::asks_first;
-use crate::numbers::have_bytes;
 use crate::starts::CheckpointStart;
 use crate::writing::{combined_job, first_append, writes, writing_job};
-use checkpoint::{CheckpointPages, InstalledIndex, PageChanges, PageMerge, Pages};
+use checkpoint::{CheckpointPages, PageChanges, PageMerge, Pages};
 use model_partition::{
     CheckpointJob, CheckpointPhase, Pause, Progress, RangeContent, ServerContext, Stage,
 };
 use std::alloc::{AllocError, Global};
-use streams::Position;
 use wire::Refusal;
 
 /// How many indexes are combined also where that is not asked.
@@ -59,6 +57,7 @@ fn begins_pages(
         next: start.next,
         combine: false,
     };
+    // It always is: no layer is fixed, as the caller sees to.
     let _frozen = content.table.freeze_layer(alloc);
     let job = writing_job(alloc, &plain, pages, &phase);
     Ok(writes(content, context, job, blocks))
@@ -113,12 +112,14 @@ fn begins_combining<P: Pages>(
     match job.merge.place_behind(&changes) {
         Some(place) => {
             job.merge.take(alloc, changes)?;
+            // It always is, as above.
             let _frozen = content.table.freeze_layer(alloc);
             content.reading = None;
             Ok(asks_first(content, context, job, &place))
         }
         None => {
             let (job, blocks) = combined_job(alloc, &job, &changes, content.table.live())?;
+            // It always is, as above.
             let _frozen = content.table.freeze_layer(alloc);
             content.reading = None;
             Ok(writes(content, context, job, blocks))
@@ -126,18 +127,25 @@ fn begins_combining<P: Pages>(
     }
 }
 
-/// Whether a checkpoint combines so many indexes: where that is asked, or there are 16.
-fn combines(combine: bool, indexes: &[InstalledIndex]) -> bool
-    ensures { result ≡ rules.combines combine indexes.now }
+/// Whether a checkpoint combines the indexes: where that is asked, or there are 16. Whatever it answers, the numbers of the
+/// checkpoint have their bytes, as its rule asks.
+#[tactic(auto, using(crate::proofs::Numbers::bytes_held))]
+fn combines(content: &RangeContent, start: &CheckpointStart) -> bool
+    ensures value { result ≡ rules.combines start.now.combine content.now.indexes }
+    ensures bytes { rules.have_bytes content.now.table.live start.now.position start.now.next ≡ true }
 {
-    combine || indexes.len() >= MAX_INDEXES
+    // For the clause on bytes: the types of these numbers and the table keep it.
+    let _live = content.table.live();
+    let _index = start.position.index;
+    let _offset = start.position.offset;
+    let _next = start.next;
+    start.combine || content.indexes.as_slice().len() >= MAX_INDEXES
 }
 
 /// A checkpoint begins: the live layer becomes the fixed one, and its first pages are appended to row data, or where it has no
 /// entry its index. Where that is asked, or 16 indexes are installed, it combines them: the first of their pages that is not at
 /// hand is asked for, or where there is none what they and the layer come to is written. The position is that up to which the
-/// layer has the log, and `next` the number that a load from there applies next. One whose numbers had no bytes is not begun.
-/// Where memory runs out (22) nothing has changed.
+/// layer has the log, and `next` the number that a load from there applies next. Where memory runs out (22) nothing has changed.
 pub fn begin<P: Pages>(
     content: &mut RangeContent,
     alloc: Global,
@@ -150,11 +158,7 @@ pub fn begin<P: Pages>(
         → rules.checkpoint_rule context.now (put content.old r) start.now.combine ≡ outcome context.now (put content.new r) p) }
     ensures err { OnErr result (content.new ≡ content.old) }
 {
-    let Position { index, offset } = start.position;
-    if !have_bytes(content.table.live(), index, offset, start.next) {
-        return Ok(Progress::Goes(None));
-    }
-    if combines(start.combine, content.indexes.as_slice()) {
+    if combines(content, start) {
         begins_combining(content, alloc, context, start, pages)
     } else {
         begins_pages(content, alloc, context, start)

@@ -6,8 +6,10 @@
 //! This crate touches memory alone. Each call takes one answer and a `RangeContent`, as the table of model_partition (Checkpoints
 //! and Answering) says. What the layers above may build on, each a clause here:
 //! - `begin` begins a checkpoint; `page_reply`, `rows_reply`, `record_reply` and `trim_reply` are the rules of an answer to the read
-//!   of a page, to row data, to the metadata of a served range, and to a Trim, whatever else is known of the range. `trim_awaits` says which number the last is
-//!   for, and `checkpoint_fault` why a checkpoint cannot begin, where `have_bytes` says that its numbers can be written.
+//!   of a page, to row data, to the metadata of a served range, and to a Trim, whatever else is known of the range. `trim_awaits`
+//!   says which number the last is for, and `checkpoint_fault` why a checkpoint cannot begin.
+//! - `install` is what comes once the record stands, which `is_recorded` tells; any other answer to the metadata's client is for
+//!   `record_reply`.
 //! - `appending_of` makes a group ready to be appended, and `appended` tells the answer that says that one stands.
 //! - `give_up` sends again what is not answered, or has an extent sealed that does not answer.
 //! - Where memory runs out (22) nothing has changed.
@@ -20,7 +22,6 @@ mod appends;
 mod first_append;
 mod giving_up;
 mod merging;
-mod numbers;
 mod page_answers;
 mod record_answers;
 mod row_answers;
@@ -32,9 +33,8 @@ pub use append_answers::appended;
 pub use appends::appending_of;
 pub use first_append::{begin, checkpoint_fault};
 pub use giving_up::{GivenUp, give_up};
-pub use numbers::have_bytes;
 pub use page_answers::page_reply;
-pub use record_answers::record_reply;
+pub use record_answers::{install, is_recorded, record_reply};
 pub use row_answers::rows_reply;
 pub use starts::CheckpointStart;
 pub use trim::{trim_awaits, trim_reply};

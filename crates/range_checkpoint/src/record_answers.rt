@@ -1,13 +1,13 @@
 //! The answers to the metadata's client of a range that is served.
-ghost use Rattle.std.specs.Prelude.{◌≡◌, ◌∷◌, ◌+◌, ◌<◌, ◌^◌, true, false, Some, None, IfOk, IfSome, OnOk, OnErr};
+ghost use Rattle.std.specs.Prelude.{◌≡◌, ◌∷◌, ◌+◌, ◌<◌, ◌^◌, true, false, IfOk, IfSome, OnOk, OnErr};
 ghost use Rattle.client.specs.Client.{needs_memory};
 ghost use Rattle.model_partition.specs.declared.checkpoint_job.CheckpointPhase.TheVariants as phases;
+ghost use Rattle.model_partition.specs.declared.progress.Progress.TheVariants.{Goes};
 ghost use Rattle.checkpoint.specs.Lookup.{HasIndex};
 ghost use Rattle.model_partition.specs.Answering as answers;
 ghost use Rattle.model_partition.specs.Checkpoints as rules;
 ghost use Rattle.model_partition.specs.Range.{is_serving};
 ghost use Rattle.model_partition.specs.RangeSteps.{RangePerforms};
-ghost use Rattle.range_checkpoint.specs.Steps as specs;
 ghost use Rattle.range_checkpoint.specs.Records as records;
 
 use crate::append_answers::{appended, told};
@@ -20,7 +20,7 @@ use model_partition::{
 };
 use std::alloc::{AllocError, Global};
 use streams::Position;
-use wire::{ExtentId, Packet};
+use wire::{Body, Packet};
 
 /// What a checkpoint's record that stands leaves: what the metadata says then, the index that counts from now on, whether it
 /// stands for all older ones, and the position and the number that the checkpoint noted.
@@ -117,7 +117,7 @@ fn take_appended(
 
 /// The index becomes the newest, in place of all older ones where it combines them. Where memory runs out (22) nothing has
 /// changed.
-fn install(
+fn add_index(
     indexes: &mut InstalledIndexes,
     alloc: Global,
     combine: bool,
@@ -136,22 +136,38 @@ fn install(
     Ok(())
 }
 
-/// The record stands, where one is out: its index counts from now on, the fixed layer goes, and the log is to be trimmed.
-fn record_stands(
+fn is_record_out(control: &Option<CheckpointJob>) -> bool
+    ensures { result ≡ records.is_record_out control.now }
+{
+    match control {
+        None => false,
+        Some(job) => matches!(job.phase, CheckpointPhase::Record { .. }),
+    }
+}
+
+/// Whether an answer says that the record of the checkpoint that is under way stands.
+pub fn is_recorded(content: &RangeContent, answer: &Body) -> bool
+    ensures { result ≡ records.is_recorded content.now.metadata content.now.control answer.now }
+{
+    is_record_out(&content.control) && appended(&content.metadata, answer).is_some()
+}
+
+/// The record of the checkpoint that is under way stands, as this answer says: the metadata says what is in it, its index counts
+/// from now on, the fixed layer goes, and the packet of the Trim is what it answers. It answers none where the record took the last
+/// number of the metadata. Where memory runs out (22) nothing has changed.
+pub fn install(
     content: &mut RangeContent,
     alloc: Global,
     context: &ServerContext,
     packet: &Packet,
-    at: (ExtentId, u32),
-) -> Result<Progress, AllocError>
-    requires serving { is_serving content.old.stage ≡ true }
-    requires appended { specs.appended content.old.metadata packet.now.body ≡ Some at }
-    ensures ok { IfOk result (λ p. RangePerforms context.now (λ r. answers.metadata_reply context.now r packet.now.body) content.old content.new p) }
+) -> Result<Option<Packet>, AllocError>
+    requires { records.is_recorded content.old.metadata content.old.control packet.now.body ≡ true }
+    ensures ok { IfOk result (λ trim. RangePerforms context.now (λ r. records.installs context.now r packet.now.body) content.old content.new (Goes trim)) }
     ensures err { OnErr result (content.new ≡ content.old) }
 {
     let Some(recorded) = record_left(&content.control, &content.said, alloc)? else {
         take_appended(content, alloc, context, packet);
-        return Ok(Progress::Goes(None));
+        return Ok(None);
     };
     let Recorded {
         said,
@@ -160,31 +176,14 @@ fn record_stands(
         position,
         next,
     } = recorded;
-    install(&mut content.indexes, alloc, combine, installed)?;
+    add_index(&mut content.indexes, alloc, combine, installed)?;
     content.said = said;
     content.table.drop_layer();
     take_appended(content, alloc, context, packet);
-    Ok(trims(content, alloc, context, &position, next))
+    Ok(Some(trims(content, alloc, context, &position, next)))
 }
 
-/// Another answer.
-fn record_told(
-    content: &mut RangeContent,
-    alloc: Global,
-    context: &ServerContext,
-    packet: &Packet,
-) -> Result<Progress, AllocError>
-    requires serving { is_serving content.old.stage ≡ true }
-    requires other { specs.appended content.old.metadata packet.now.body ≡ None }
-    ensures ok { IfOk result (λ p. RangePerforms context.now (λ r. answers.metadata_reply context.now r packet.now.body) content.old content.new p) }
-    ensures err { OnErr result (content.new ≡ content.old) }
-{
-    let reaction = take_answer(&mut content.metadata, alloc, context, packet)?;
-    Ok(told(reaction))
-}
-
-/// The answer to what is out to the metadata of a range that is served: once a checkpoint's record stands, its index counts, the
-/// layer that it wrote down goes, and the log is trimmed up to the position that it noted. The range is dropped where its
+/// Another answer to what is out to the metadata of a range that is served: the client goes on. The range is dropped where its
 /// generation is old (3). Where memory runs out (22) nothing has changed.
 pub fn record_reply(
     content: &mut RangeContent,
@@ -192,12 +191,11 @@ pub fn record_reply(
     context: &ServerContext,
     packet: &Packet,
 ) -> Result<Progress, AllocError>
-    requires { is_serving content.old.stage ≡ true }
+    requires serving { is_serving content.old.stage ≡ true }
+    requires other { records.is_recorded content.old.metadata content.old.control packet.now.body ≡ false }
     ensures ok { IfOk result (λ p. RangePerforms context.now (λ r. answers.metadata_reply context.now r packet.now.body) content.old content.new p) }
     ensures err { OnErr result (content.new ≡ content.old) }
 {
-    match appended(&content.metadata, &packet.body) {
-        Some(at) => record_stands(content, alloc, context, packet, at),
-        None => record_told(content, alloc, context, packet),
-    }
+    let reaction = take_answer(&mut content.metadata, alloc, context, packet)?;
+    Ok(told(reaction))
 }

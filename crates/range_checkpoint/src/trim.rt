@@ -1,19 +1,19 @@
 //! The log is trimmed.
-ghost use Rattle.std.specs.Prelude.{◌≡◌, ◌≤◌, ◌-◌, false, true, length, take, drop, IfOk, OnOk, OnErr};
+ghost use Rattle.std.specs.Prelude.{◌≡◌, ◌≤◌, ◌-◌, [], ◌∷◌, false, true, length, take, drop, IfOk, OnOk, OnErr};
 ghost use Rattle.wire.specs.declared.actor.ReqNo.{ReqNo as Number};
 ghost use Rattle.wire.specs.declared.body.StreamBody.TheVariants as streams;
 ghost use Rattle.model_partition.specs.declared.server_context.ServerContext.{ServerContext as Context};
 ghost use Rattle.model_partition.specs.Answering as answers;
 ghost use Rattle.model_partition.specs.CheckpointStates.{CheckpointState, is_recording, last_job};
 ghost use Rattle.model_partition.specs.Checkpoints as rules;
-ghost use Rattle.model_partition.specs.Range.{RangeState};
+ghost use Rattle.model_partition.specs.Range.{RangeState, goes};
 ghost use Rattle.model_partition.specs.RangeSteps.{RangePerforms, put};
 ghost use Rattle.range_checkpoint.specs.Trims as specs;
 
 use checkpoint::{CheckpointPages, InstalledIndex, PageMerge};
 use client::StreamClient;
 use model_partition::{
-    CheckpointJob, CheckpointPhase, Progress, RangeContent, ServerContext, is_same, next_request,
+    CheckpointJob, CheckpointPhase, Progress, RangeContent, ServerContext, next_request,
 };
 use std::alloc::{AllocError, Global};
 use streams::Position;
@@ -40,12 +40,7 @@ fn trim_index(log: &StreamClient, position: &Position) -> u64
 fn have_places(indexes: &[InstalledIndex]) -> bool
     ensures { result ≡ rules.have_places indexes.now }
 {
-    for installed in indexes {
-        if installed.index.has_place {
-            return true;
-        }
-    }
-    false
+    indexes.iter().any(|installed| installed.index.has_place)
 }
 
 /// The packet of a Trim.
@@ -86,15 +81,16 @@ fn trim_job(alloc: Global, position: &Position, next: u64, phase: &CheckpointPha
     }
 }
 
-/// The log is to be trimmed below the position that a checkpoint noted.
+/// The log is to be trimmed below the position that a checkpoint noted: the packet that asks so.
 pub(crate) fn trims(
     content: &mut RangeContent,
     alloc: Global,
     context: &ServerContext,
     position: &Position,
     next: u64,
-) -> Progress
-    ensures { (job : CheckpointState) → job.position ≡ position.now → job.next ≡ next → RangePerforms context.now (λ r. rules.trims context.now r job) content.old content.new result }
+) -> Packet
+    ensures { (job : CheckpointState) → job.position ≡ position.now → job.next ≡ next
+        → (r : RangeState) → rules.trims context.now (put content.old r) job ≡ goes context.now (put content.new r) (result ∷ []) [] }
 {
     let before = trim_index(&content.log, position);
     let to_blob = have_places(content.indexes.as_slice());
@@ -106,7 +102,7 @@ pub(crate) fn trims(
         request,
     };
     content.control = Some(trim_job(alloc, position, next, &phase));
-    Progress::Goes(Some(packet))
+    packet
 }
 
 /// Whether a Trim is out under this number.
@@ -116,7 +112,7 @@ pub fn trim_awaits(control: &Option<CheckpointJob>, request: &ReqNo) -> bool
     match control {
         None => false,
         Some(job) => match &job.phase {
-            CheckpointPhase::Trim { request: own, .. } => is_same(own, request),
+            CheckpointPhase::Trim { request: own, .. } => own == request,
             _ => false,
         },
     }
@@ -160,6 +156,7 @@ fn trimmed(content: &mut RangeContent, before: u64, to_blob: bool) -> Result<(),
         add_first(&mut content.blob_data, &content.log.extents, count)?;
     }
     content.log.base = content.log.base.max(before);
+    // Nobody asks for what leaves the log.
     let _gone = content.log.extents.drain(..count);
     content.control = None;
     Ok(())

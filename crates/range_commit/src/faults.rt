@@ -29,34 +29,23 @@ fn value_size(value: &Option<Bytes>) -> usize
 fn has_bad_key(changes: &[Change]) -> bool
     ensures { result ≡ list_any (λ c. not (is_key c.key)) changes.now }
 {
-    for change in changes {
-        if !is_key(&change.key) {
-            return true;
-        }
-    }
-    false
+    changes.iter().any(|change| !is_key(&change.key))
 }
 
 fn has_large_value(changes: &[Change]) -> bool
     ensures { result ≡ list_any (λ c. nat_lt 65536 (value_size c.value)) changes.now }
 {
-    for change in changes {
-        if value_size(&change.value) > MAX_VALUE {
-            return true;
-        }
-    }
-    false
+    changes
+        .iter()
+        .any(|change| value_size(&change.value) > MAX_VALUE)
 }
 
 fn has_key_outside(changes: &[Change], keys: &KeyRange) -> bool
     ensures { result ≡ list_any (λ c. not (within keys.now c.key)) changes.now }
 {
-    for change in changes {
-        if !keys.contains(change.key.as_slice()) {
-            return true;
-        }
-    }
-    false
+    changes
+        .iter()
+        .any(|change| !keys.contains(change.key.as_slice()))
 }
 
 /// Why a range of these keys refuses the changes of a transaction: `TooLarge` (37) where there are none or more than 32,

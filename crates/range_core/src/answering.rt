@@ -2,6 +2,7 @@
 ghost use Rattle.std.specs.Prelude.{◌≡◌, ◌<◌, ◌≤◌, ◌+◌, ◌^◌, [], Some, true, false, length, vec_len, vec_capacity, IfOk, OnErr};
 ghost use Rattle.model_partition.specs.Range.{RangeState, is_serving, refused_users};
 ghost use Rattle.model_partition.specs.Answering.{answer_rule, answered_number, log_reply, metadata_reply, range_awaits};
+ghost use Rattle.range_checkpoint.specs.Records.{is_recorded};
 ghost use Rattle.range_load.specs.Awaited.{is_awaited};
 ghost use Rattle.model_partition.specs.Getting.{held_at};
 ghost use Rattle.model_partition.specs.RangeSteps as steps;
@@ -48,7 +49,7 @@ pub enum Waiter {
     Load,
     /// The metadata's client, which is the load's until the range is served.
     Metadata,
-    /// The metadata's client once the range is served: it appends the record of a checkpoint.
+    /// The metadata's client once the range is served, where the answer is not that the record of a checkpoint stands.
     Record,
     /// The log's client, which is the load's until the range is served.
     Log,
@@ -76,6 +77,7 @@ fn progress_of(
     requires metadata { waiter ≡ waiters.Metadata → is_serving content.old.stage ≡ false }
     requires log { waiter ≡ waiters.Log → is_serving content.old.stage ≡ false }
     requires record { waiter ≡ waiters.Record → is_serving content.old.stage ≡ true }
+    requires other { waiter ≡ waiters.Record → is_recorded content.old.metadata content.old.control packet.now.body ≡ false }
     ensures ok { IfOk result (λ p. (r : RangeState) → held_at r.held ≡ held_at pages.now.held
         → waiter_rule waiter context.now (steps.put content.old r) packet.now.body ≡ steps.outcome context.now (steps.put content.new r) p) }
     ensures err { OnErr result (content.new ≡ content.old) }
@@ -145,10 +147,10 @@ impl RangeState {
 
     /// The load goes on by the answer to this one: the streams are opened, the metadata is read, then the log, then the indexes,
     /// the generation is confirmed, and the range is served from then on, with the number of the next transaction and the log's
-    /// position. Or a checkpoint goes on: the pages of older indexes are read, where it combines these, a group of pages stands,
-    /// then the index, then the record, and the log is trimmed. The
-    /// range is dropped where its generation is an old one (3), what was read is damaged (21), or an index stands in an extent that
-    /// is in none of its streams, and those who wait are told so (30). Where memory runs out (22) nothing has changed.
+    /// position. Or a checkpoint goes on: the pages of older indexes are read, where it combines these, a group of pages stands, then
+    /// the index, and in the end the log is trimmed. The range is dropped where its generation is an old one (3), what was read is
+    /// damaged (21), or an index stands in an extent that is in none of its streams, and those who wait are told so (30). Where
+    /// memory runs out (22) nothing has changed.
     pub fn load(
         &mut self,
         alloc: Global,
@@ -161,6 +163,7 @@ impl RangeState {
         requires metadata { waiter ≡ waiters.Metadata → is_serving self.old.stage ≡ false }
         requires loading { waiter ≡ waiters.Log → is_serving self.old.stage ≡ false }
         requires record { waiter ≡ waiters.Record → is_serving self.old.stage ≡ true }
+        requires other { waiter ≡ waiters.Record → is_recorded self.old.metadata self.old.control packet.now.body ≡ false }
         ensures ok { IfOk result (λ t. waiter_rule waiter context.now self.old packet.now.body ≡ outcome t self.new) }
         ensures err { OnErr result (self.new ≡ self.old) }
         ensures short { IfOk result IsShort }
@@ -180,6 +183,8 @@ impl RangeState {
         }
     }
 
+    /// An answer to the metadata's client: to the load, or where the range is served to the record of a checkpoint.
+    #[tactic(auto, using(range_checkpoint::proofs::Recorded::reply_installs))]
     fn metadata_reply(
         &mut self,
         alloc: Global,
@@ -191,10 +196,13 @@ impl RangeState {
         ensures err { OnErr result (self.new ≡ self.old) }
         ensures short { IfOk result IsShort }
     {
-        if self.is_serving() {
-            return self.load(alloc, context, Waiter::Record, packet);
+        if !self.is_serving() {
+            return self.load(alloc, context, Waiter::Metadata, packet);
         }
-        self.load(alloc, context, Waiter::Metadata, packet)
+        if self.is_recorded(&packet.body) {
+            return self.install(alloc, context, packet);
+        }
+        self.load(alloc, context, Waiter::Record, packet)
     }
 
     fn log_reply(
@@ -232,8 +240,8 @@ impl RangeState {
     }
 
     /// The answer of this number, a packet: what the load, the client of the metadata, of the log or of row data, the read of an
-    /// index or of a page, the Trim or the Gets do with it, whichever waits for it first. That it bears the number is the caller's
-    /// condition.
+    /// index or of a page, the Trim or the Gets do with it, whichever waits for it first; `install` where it says that the record of
+    /// a checkpoint stands, and `log_done` where a group does. That it bears the number is the caller's condition.
     /// For want of memory (22) nothing has changed.
     #[tactic(auto, using(crate::proofs::LogAnswers::awaited, crate::proofs::LogAnswers::load_awaited))]
     pub fn answer(

@@ -25,7 +25,7 @@ impl Model for RangeStep {
 }
 
 /// Adds a packet, if there is one, into room that is there.
-pub(crate) fn push_some(packets: &mut Vec<Packet>, packet: Option<Packet>)
+pub fn push_some(packets: &mut Vec<Packet>, packet: Option<Packet>)
     requires { vec_len packets.old < vec_capacity packets.old }
     ensures items { packets.new.items ≡ packets.old.items ++ option_to_list packet }
     ensures grows { vec_len packets.new ≤ vec_len packets.old + 1 }
@@ -37,9 +37,10 @@ pub(crate) fn push_some(packets: &mut Vec<Packet>, packet: Option<Packet>)
 }
 
 /// Moves items to the end of others, into room that is there.
-pub(crate) fn append_reserved<T: Drop>(items: &mut Vec<T>, mut more: Vec<T>)
+pub fn append_reserved<T: Drop>(items: &mut Vec<T>, mut more: Vec<T>)
     requires { vec_len items.old + vec_len more ≤ vec_capacity items.old }
-    ensures { items.new.items ≡ items.old.items ++ more.items }
+    ensures items { items.new.items ≡ items.old.items ++ more.items }
+    ensures room { vec_capacity items.old ≤ vec_capacity items.new }
 {
     let moved: Result<(), AllocError> = items.append(&mut more);
     moved.unwrap();

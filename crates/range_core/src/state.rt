@@ -177,7 +177,7 @@ impl RangeState {
         self.queue.next()
     }
 
-    /// The indexes that its metadata names, the newest first.
+    /// The indexes that its metadata names now, the newest first.
     pub fn indexes(&self) -> &[IndexRange]
         ensures { result.now ≡ self.now.said.indexes }
     {
@@ -195,11 +195,12 @@ impl RangeState {
         }
     }
 
-    /// The regions of its log, in the log's order, each with the number that is to be applied next.
+    /// The regions of its log that its metadata names now, in the log's order, each with the number that a load applies next from
+    /// its start on. Once the record of a checkpoint stands that is one, without end, at the position that the checkpoint noted.
     pub fn regions(&self) -> &[Region]
-        ensures { result.now ≡ self.now.regions }
+        ensures { result.now ≡ self.now.said.regions }
     {
-        &self.content.regions
+        &self.content.said.regions.items
     }
 
     /// A lease's end never goes back.

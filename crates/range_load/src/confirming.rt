@@ -1,5 +1,5 @@
 //! All is read: the generation is confirmed, and the range is served.
-ghost use Rattle.std.specs.Prelude.{◌≡◌, ◌+◌, ◌<◌, ◌^◌, length, nat_lt, true, None, IfOk, OnErr};
+ghost use Rattle.std.specs.Prelude.{◌≡◌, ◌+◌, ◌<◌, ◌^◌, length, true, None, IfOk, OnErr};
 ghost use Rattle.client.specs.declared.load.LoadPhase.TheVariants as phases;
 ghost use Rattle.client.specs.Client.{last_extent};
 ghost use Rattle.client.specs.Load.{is_open, reply_phase};
@@ -63,25 +63,15 @@ fn are_counted(log: &StreamClient) -> bool
     log.base.checked_add(log.extents.len() as u64).is_some()
 }
 
-/// Whether an end has 32 bits, which it has.
-fn has_32_bits(end: u32) -> bool
-    ensures { result ≡ nat_lt end (2 ^ 32) }
-{
-    let _has = end;
-    true
-}
-
 /// Whether the end of the log is a position.
 fn has_position(log: &StreamClient) -> bool
     ensures { result ≡ rows.has_position log.now }
 {
-    if !are_counted(log) {
-        return false;
-    }
-    match log.last_extent() {
-        None => true,
-        Some(extent) => has_32_bits(end_of(extent.length, log.checked)),
-    }
+    // For the clause: the end of the last extent, if there is one, has 32 bits.
+    let _end = log
+        .last_extent()
+        .map(|extent| end_of(extent.length, log.checked));
+    are_counted(log)
 }
 
 /// The manager is asked whether the generation is still the fence.

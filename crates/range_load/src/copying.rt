@@ -3,7 +3,7 @@ ghost use Rattle.std.specs.Prelude.{◌≡◌, [], IfOk};
 
 use bytes::Bytes;
 use checkpoint::{InstalledIndex, InstalledIndexes};
-use checkpoint_format::{Index, PageAt, PageList};
+use checkpoint_format::Index;
 use memtable::{Cell, MemTable};
 use metadata::copied_keys;
 use model_partition::Entries;
@@ -46,26 +46,12 @@ pub(crate) fn live_entries(alloc: Global, table: &MemTable) -> Result<Entries, A
     Ok(Entries { items: copies })
 }
 
-/// The same pages again, which share their first keys.
-fn copied_pages(alloc: Global, pages: &[PageAt]) -> Result<PageList, AllocError>
-    ensures { IfOk result (λ copies. copies ≡ pages.now) }
-{
-    let mut copies: Vec<PageAt> = Vec::with_capacity(alloc, pages.len())?;
-    for page in pages {
-        copies.push(PageAt {
-            first: page.first.clone()?,
-            place: page.place,
-        })?;
-    }
-    Ok(PageList { items: copies })
-}
-
 /// The same index again, which shares its keys.
 fn copied_index(alloc: Global, one: &InstalledIndex) -> Result<InstalledIndex, AllocError>
     ensures { IfOk result (λ copy. copy ≡ one.now) }
 {
     let keys = copied_keys(&one.keys)?;
-    let pages = copied_pages(alloc, one.index.pages.as_slice())?;
+    let pages = one.index.pages.copy(alloc)?;
     Ok(InstalledIndex {
         place: one.place,
         keys,

@@ -14,7 +14,7 @@ use checkpoint::InstalledIndex;
 use checkpoint_format::decode;
 use memtable::Place;
 use metadata::{IndexRange, KeyRange, copied_keys};
-use model_partition::{PlaceRead, Progress, RangeContent, ServerContext, Stage, is_at, is_same};
+use model_partition::{PlaceRead, Progress, RangeContent, ServerContext, Stage, is_at};
 use std::alloc::{AllocError, Global};
 use wire::{AppendBody, Body, ExtentId, Packet, ReadBody, Refusal, ReqNo};
 
@@ -24,7 +24,7 @@ pub fn reads_under(reading: &Option<PlaceRead>, number: &ReqNo) -> bool
 {
     match reading {
         None => false,
-        Some(read) => is_same(&read.request, number),
+        Some(read) => read.request == *number,
     }
 }
 

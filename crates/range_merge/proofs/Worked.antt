@@ -30,12 +30,16 @@ high_keys = record { low = 109 ∷ []; high = None }
 abbrev old_index : IndexRange
 old_index = record { place = record { extent = 20; offset = 0; length = 9 }; keys = record { low = []; high = None } }
 
+-- and one that the left range wrote since
+abbrev new_index : IndexRange
+new_index = record { place = record { extent = 21; offset = 0; length = 9 }; keys = low_keys }
+
 -- its log begins at the index 2, and is to be read from the second extent on
 abbrev left : RangeState
 left =
     record (new_range server 2 1 100) {
       log = record (new_range server 2 1 100).log { base = 2; extents = extent 11 ∷ extent 12 ∷ [] };
-      said = record { keys = low_keys; indexes = old_index ∷ []; regions = record { start = record { index = 3; offset = 24 }; end = None; next = 4; keys = low_keys } ∷ []; next = 6 };
+      said = record { keys = low_keys; indexes = new_index ∷ old_index ∷ []; regions = record { start = record { index = 3; offset = 24 }; end = None; next = 4; keys = low_keys } ∷ []; next = 6 };
     }
 
 -- its log begins at the index 7, and is to be read from the first extent on
@@ -54,6 +58,6 @@ pub regions_join : joined_regions left right ≡
     region 3 24 (Some 4) 4 low_keys ∷ region 4 48 (Some 7) 5 high_keys ∷ region 7 0 None 1 (record { low = []; high = None }) ∷ []
 regions_join = refl
 
--- the old index counts once on either side
-pub indexes_join : joined_indexes left right ≡ record old_index { keys = high_keys } ∷ record old_index { keys = low_keys } ∷ []
+-- the old index counts once on either side, and stands before the new one
+pub indexes_join : joined_indexes left right ≡ record old_index { keys = low_keys } ∷ new_index ∷ record old_index { keys = high_keys } ∷ []
 indexes_join = refl

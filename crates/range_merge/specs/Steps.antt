@@ -1,7 +1,7 @@
 -- What a step of a merge leaves, as its code says it.
 use Rattle.std.specs.Prelude.{ℕ, ◌≤◌, Bool, List, ◌++◌, length, Option, Some, option_to_list, if◌then◌else◌}
 use Rattle.wire.specs.declared.packet.Packet.{Packet}
-use Rattle.model_partition.specs.Range.{RangeState}
+use Rattle.model_partition.specs.Range.{RangeState, RangeOutcome}
 use Rattle.range_core.specs.Steps.{unless}
 use Rattle.model_partition.specs.declared.merge_job.MergeJob.{MergeJob}
 use Rattle.model_partition.specs.Merges.{MergeStep, pausing}
@@ -30,6 +30,10 @@ paused_if pauses r = if pauses then pausing r else r
 -- the packets of the range's own step come before
 abbrev pub behind : List Packet → MergeStep → MergeStep
 behind packets t = record t { packets = packets ++ t.packets }
+
+-- so they do before a step of the other range
+abbrev pub behind_step : List Packet → RangeOutcome → RangeOutcome
+behind_step packets o = record o { packets = packets ++ o.packets }
 
 -- no step of a merge sends more
 abbrev pub IsShort : MergeTaken → Type 0

@@ -21,7 +21,7 @@ use wire::{AppendBody, Body, MapBody, Packet, RangeId, Refusal, SealBody, Stream
 pub(crate) fn may_checkpoint(state: &RangeState) -> bool
     ensures value { result ≡ may_checkpoint state.now }
 {
-    state.checkpoint_fault().is_none() && state.have_bytes()
+    state.checkpoint_fault().is_none()
 }
 
 /// The map has numbered the new range: the checkpoint of the left one begins, where one can.
@@ -41,7 +41,7 @@ fn begun(
     if !may_checkpoint(left) {
         return Ok(MergeTaken::rests(alloc, context.count));
     }
-    let taken = left.checkpoint(alloc, context, false)?;
+    let taken = left.freeze(alloc, context, false)?;
     job.into = into;
     job.phase = MergePhase::Checkpoint {
         side: MergeSide::Left,
@@ -55,16 +55,26 @@ fn begun(
     })
 }
 
-/// The map does not begin the merge: it ends.
-fn begin_refused(alloc: Global, context: &ServerContext, refusal: Refusal) -> MergeTaken
-    ensures ok { (l r : RangeStateOf) (job : MergeJobState) → rules.begin_refused context.now l r job refusal ≡ outcome result l r job }
-    ensures short { IsShort result }
+/// The map does not begin the merge: it ends, and the left range goes where its generation is an old one.
+fn begin_refused(
+    alloc: Global,
+    context: &ServerContext,
+    left: &mut RangeState,
+    right: &mut RangeState,
+    refusal: Refusal,
+) -> Result<MergeTaken, AllocError>
+    requires numbers { context.now.count + 1 < 2 ^ 64 }
+    ensures ok { IfOk result (λ t. (job : MergeJobState) → rules.begin_refused context.now left.old right.old job refusal ≡ outcome t left.new right.new job) }
+    ensures left { OnErr result (left.new ≡ left.old) }
+    ensures right { OnErr result (right.new ≡ right.old) }
+    ensures short { IfOk result IsShort }
 {
     match refusal {
-        Refusal::NotOwner => parts(alloc, context),
-        Refusal::NotAdjacent => parts(alloc, context),
-        Refusal::GenerationChanged => parts(alloc, context),
-        _ => MergeTaken::rests(alloc, context.count),
+        Refusal::Stale => loses(alloc, context, left, right, MergeSide::Left),
+        Refusal::NotOwner => Ok(parts(alloc, context)),
+        Refusal::NotAdjacent => Ok(parts(alloc, context)),
+        Refusal::GenerationChanged => Ok(parts(alloc, context)),
+        _ => Ok(MergeTaken::rests(alloc, context.count)),
     }
 }
 
@@ -167,7 +177,7 @@ fn refused(
     ensures short { IfOk result IsShort }
 {
     match job.phase {
-        MergePhase::Begin { .. } => Ok(begin_refused(alloc, context, refusal)),
+        MergePhase::Begin { .. } => begin_refused(alloc, context, left, right, refusal),
         MergePhase::Seal { side, .. } => seal_refused(alloc, context, left, right, side, refusal),
         MergePhase::Build { .. } => build_refused(alloc, context, left, right, job, refusal),
         MergePhase::Create { .. } => create_refused(alloc, context, left, right, job, refusal),

@@ -6,7 +6,7 @@ ghost use Rattle.model_partition.specs.Merges as rules;
 ghost use Rattle.range_merge.specs.Steps.{outcome, IsShort};
 
 use crate::taken::MergeTaken;
-use model_partition::{MergeSide, Pause, ServerContext};
+use model_partition::{MergeSide, ServerContext};
 use range_core::RangeState;
 use std::alloc::{AllocError, Global};
 
@@ -14,10 +14,8 @@ use std::alloc::{AllocError, Global};
 pub fn free(state: &mut RangeState)
     ensures { state.new ≡ rules.freed state.old }
 {
-    if state.pause.is_paused() {
-        state.pause = Pause::On;
-    } else {
-        state.pause = Pause::Off;
+    if !state.pause.is_paused() {
+        state.resume();
     }
 }
 
@@ -39,7 +37,8 @@ pub(crate) fn ends(
     Ok(MergeTaken::ends(true, true, context.count + 1, packets))
 }
 
-/// One of the two goes, whose Gets are told so, and the merge with it; the other is freed. Where memory runs out (22) nothing has changed.
+/// One of the two goes, whose waiting users are told so (30), at most 1,280, and the merge with it; the other is freed. Where memory
+/// runs out (22) nothing has changed.
 pub(crate) fn loses(
     alloc: Global,
     context: &ServerContext,
@@ -55,12 +54,12 @@ pub(crate) fn loses(
 {
     match side {
         MergeSide::Left => {
-            let packets = left.lookups.refusals(alloc, context)?;
+            let packets = left.refusals(alloc, context)?;
             free(right);
             Ok(MergeTaken::ends(true, false, context.count + 1, packets))
         }
         MergeSide::Right => {
-            let packets = right.lookups.refusals(alloc, context)?;
+            let packets = right.refusals(alloc, context)?;
             free(left);
             Ok(MergeTaken::ends(false, true, context.count + 1, packets))
         }

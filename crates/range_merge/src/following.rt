@@ -7,9 +7,9 @@ ghost use Rattle.range_merge.specs.Steps.{behind as behind_packets, goes_on, out
 use crate::next_packet::{NextPacket, has_number};
 use crate::room::MergeRoom;
 use crate::seals::{first_open, seals_or_builds};
-use crate::taken::{MergeTaken, append_reserved, push_some};
+use crate::taken::MergeTaken;
 use model_partition::{MergeJob, MergePhase, MergeSide, ServerContext};
-use range_core::RangeState;
+use range_core::{RangeState, append_reserved, push_some};
 use wire::{Modifies, Packet};
 
 /// The step of a range that a merge comes behind: which of the two it is, the room that was made before it, and what it sent.

@@ -1,22 +1,22 @@
 //! No answer comes to a merge.
-ghost use Rattle.std.specs.Prelude.{◌≡◌, ◌<◌, ◌≤◌, ◌+◌, ◌^◌, None, true, false, length, option_to_list};
+ghost use Rattle.std.specs.Prelude.{◌≡◌, ◌<◌, ◌≤◌, ◌+◌, ◌^◌, [], Some, None, true, false, length, option_to_list};
 ghost use Rattle.client.specs.Client.{give_up_rule};
 ghost use Rattle.model_partition.specs.Range.{RangeState as RangeStateOf, picking, request};
 ghost use Rattle.model_partition.specs.Splits.{seal_again};
 ghost use Rattle.model_partition.specs.Merges as rules;
 ghost use Rattle.range_merge.specs.Rooms.{again_room_of};
-ghost use Rattle.range_merge.specs.Steps.{behind, goes_on, outcome};
+ghost use Rattle.range_merge.specs.Steps.{behind, behind_step, goes_on, outcome};
 ghost use Rattle.range_merge.specs.WriteAnswers.{is_writing};
 
 use crate::next_packet::{NextPacket, has_number};
 use crate::packets::{begin_packet, build_packet, complete_packet, create_packet, seal_packet};
 use crate::room::MergeRoom;
 use crate::seals::open_part;
-use crate::taken::{MergeTaken, append_reserved, push_some};
+use crate::taken::MergeTaken;
 use crate::write_answers::is_writing;
 use client::StreamClient;
 use model_partition::{MergeJob, MergePhase, MergeSide, ServerContext, next_request};
-use range_core::RangeState;
+use range_core::{RangeState, append_reserved, push_some};
 use wire::{Modifies, Packet, ReqNo, StreamKind};
 
 /// The last extent of a stream is to be sealed, where it is still open.
@@ -47,7 +47,7 @@ fn client_gives_up(context: &ServerContext, client: &mut StreamClient) -> Option
 fn write_again(context: &ServerContext, job: &mut MergeJob) -> NextPacket
     requires numbers { context.now.count + 1 < 2 ^ 64 }
     requires writing { is_writing job.old.phase ≡ true }
-    ensures { (l r : RangeStateOf) → rules.gives_up_in context.now l r job.old job.old.phase ≡ goes_on l r job.new result.count result.packet }
+    ensures { (l r : RangeStateOf) → rules.asks_again_in context.now l r job.old job.old.phase ≡ goes_on l r job.new result.count result.packet }
 {
     match &mut job.phase {
         MergePhase::Write {
@@ -72,7 +72,7 @@ fn asked_again(
     requires numbers { context.now.count + 1 < 2 ^ 64 }
     requires other { is_writing job.now.phase ≡ false }
     requires serves { streams ≡ again_room_of job.now job.now.phase }
-    ensures { rules.gives_up_in context.now left.now right.now job.now job.now.phase ≡ goes_on left.now right.now job.now result.count result.packet }
+    ensures { rules.asks_again_in context.now left.now right.now job.now job.now.phase ≡ goes_on left.now right.now job.now result.count result.packet }
 {
     match &job.phase {
         MergePhase::Begin { request } => {
@@ -111,7 +111,7 @@ fn again(
     streams: Option<Modifies>,
 ) -> NextPacket
     requires serves { streams ≡ again_room_of job.old job.old.phase }
-    ensures { rules.gives_up context.now left.now right.now job.old ≡ goes_on left.now right.now job.new result.count result.packet }
+    ensures { rules.asks_again context.now left.now right.now job.old ≡ goes_on left.now right.now job.new result.count result.packet }
 {
     if !has_number(context) {
         return NextPacket::none(context);
@@ -122,7 +122,54 @@ fn again(
     asked_again(context, left, right, job, streams)
 }
 
-/// What is not answered is asked again under its number; an append to the new range's metadata has its extent sealed, under the next
+/// Which of the two makes its checkpoint for the merge while the other one, this, is told to give up: then it is that checkpoint that
+/// gives up (`give_up_checkpoint`). None where the merge itself waits for an answer (`give_up`), and where this one makes its checkpoint,
+/// which has given up with all else that the range waits for.
+pub fn other_checkpoint(job: &MergeJob, told: MergeSide) -> Option<MergeSide>
+    ensures { result ≡ rules.other_checkpoint job.now.phase told }
+{
+    match job.phase {
+        MergePhase::Checkpoint { side } if side != told => Some(side),
+        _ => None,
+    }
+}
+
+/// Whether the server has the numbers that a checkpoint takes which gives up.
+fn has_numbers_again(context: &ServerContext) -> bool
+    ensures { result ≡ rules.has_numbers_again context.now }
+{
+    context.count < u64::MAX - 2
+}
+
+/// The checkpoint that one of the two makes for the merge gives up, while the other one was told to: of the range nothing else does.
+/// Where the server has no numbers left nothing is asked. It comes behind the other range's own, whose packets, at most 1,400, are sent
+/// first, takes no memory but the room that was made before, and neither range goes nor the merge ends.
+pub fn give_up_checkpoint(
+    context: &ServerContext,
+    state: &mut RangeState,
+    room: MergeRoom,
+    sent: Vec<Packet>,
+) -> MergeTaken
+    requires { length sent.items ≤ 1400 }
+    ensures value { behind_step sent.items (rules.checkpoint_again context.now state.old) ≡ record { after = Some state.new; count = result.count; packets = result.packets; notes = [] } }
+    ensures few { length result.packets ≤ 1404 }
+    ensures left { result.left_dropped ≡ false }
+    ensures right { result.right_dropped ≡ false }
+    ensures under_way { result.ended ≡ false }
+{
+    let MergeRoom {
+        streams: _,
+        mut packets,
+    } = room;
+    append_reserved(&mut packets, sent);
+    if !has_numbers_again(context) {
+        return MergeTaken::sends(context.count, packets);
+    }
+    state.give_up_control(context, &mut packets);
+    MergeTaken::sends(context.count + 3, packets)
+}
+
+/// What the merge waits for is asked again under its number; an append to the new range's metadata has its extent sealed, under the next
 /// number of the server. Nothing is asked while a range itself is at work for the merge, nor where the server has no number left. It
 /// comes behind the range's own, whose packets, at most 1,400, are sent first, takes no memory but the room that was made before, and
 /// neither range goes nor the merge ends.
@@ -136,7 +183,7 @@ pub fn give_up(
 ) -> MergeTaken
     requires few { length sent.items ≤ 1400 }
     requires serves { room ≡ again_room_of job.old job.old.phase }
-    ensures value { behind sent.items (rules.gives_up context.now left.now right.now job.old) ≡ outcome result left.now right.now job.new }
+    ensures value { behind sent.items (rules.asks_again context.now left.now right.now job.old) ≡ outcome result left.now right.now job.new }
     ensures few { length result.packets ≤ 1401 }
     ensures left { result.left_dropped ≡ false }
     ensures right { result.right_dropped ≡ false }

@@ -32,11 +32,13 @@ fn all_cut(
     Ok(made)
 }
 
-/// The indexes of a range, each with what its keys have in common with the range's. An error is out of memory (22).
+/// The indexes of a range, the oldest first, each with what its keys have in common with the range's. An error is out of memory (22).
 pub(crate) fn cut_indexes(alloc: Global, said: &Metadata) -> Result<Vec<IndexRange>, AllocError>
     ensures { IfOk result (λ made. made.items ≡ specs.cut_indexes said.now) }
 {
-    all_cut(alloc, &said.keys, &said.indexes.items)
+    let mut made = all_cut(alloc, &said.keys, &said.indexes.items)?;
+    made.reverse();
+    Ok(made)
 }
 
 /// The index behind the last extent of a log, if it has 64 bits.

@@ -14,10 +14,12 @@
 //!   transaction waits. It changes neither range: where it says that both are paused, the caller pauses them. It takes no memory:
 //!   `MergeRoom::for_step` is made before the step.
 //! - `give_up` sends again what is not answered, or has an extent sealed, behind the range's own, with the room of
-//!   `MergeRoom::for_give_up`; `free` is what becomes of a range whose merge is no more.
+//!   `MergeRoom::for_give_up`; where `other_checkpoint` says that the other range makes its checkpoint, `give_up_checkpoint` has that give
+//!   up in its place. So a merge gives up once, whichever of its ranges was told to.
+//! - `free` is what becomes of a range whose merge is no more.
 //! - Indexes and regions of the new range count within the keys of the range that they are of, and the regions of the right one are moved
 //!   behind the left log; the map is told only once both records stand.
-//! - A step of a merge sends at most 1,400 packets. A range goes only once it is paused, so that nothing waits there but Gets.
+//! - A step of a merge sends at most 1,400 packets. Both ranges go only once they are paused, so that nothing waits there but Gets.
 //! - Where memory runs out (22) nothing has changed, and that is the one error that no clause limits.
 #![tactic(auto)]
 
@@ -46,7 +48,7 @@ pub use awaited::awaits;
 pub use beginning::{begin, merge_fault};
 pub use departures::free;
 pub use following::{MergeFollowUp, StepBehind, follow};
-pub use giving_up::give_up;
+pub use giving_up::{give_up, give_up_checkpoint, other_checkpoint};
 pub use room::MergeRoom;
 pub use taken::MergeTaken;
 pub use trimming::{left_trim, left_trimmed};

@@ -1,5 +1,5 @@
 //! The records of the new range: its keys, and then its indexes and regions.
-ghost use Rattle.std.specs.Prelude.{◌≡◌, ◌∷◌, ◌^◌, [], true, false, nat_lt, IfOk, IfSome, IfNone};
+ghost use Rattle.std.specs.Prelude.{◌≡◌, ◌∷◌, [], true, false, IfOk, IfSome, IfNone};
 ghost use Rattle.std.specs.List.{list_all};
 ghost use Rattle.metadata.specs.declared.record.MetaItem.TheVariants.{Ranges, Regions as RegionsItem};
 ghost use Rattle.metadata.specs.Record.{Fits, IsKeyRange, spelling};
@@ -9,7 +9,6 @@ ghost use Rattle.model_partition.specs.Merges as rules;
 use crate::joined::{closed_regions, cut_indexes, log_end};
 use crate::key_ranges::{are_record_keys, joined_keys};
 use client::Appending;
-use memtable::Place;
 use metadata::{IndexRange, IndexRanges, KeyRange, MetaItem, MetaRecord, Region, Regions, encode};
 use model_partition::MergeRecord;
 use range_checkpoint::appending_of;
@@ -23,62 +22,24 @@ const MOST_INDEXES: usize = 80;
 /// How many regions a record has at most.
 const MOST_REGIONS: usize = 32;
 
-/// Whether a number has 64 bits, which it has.
-fn has_64_bits(number: u64) -> bool
-    ensures { result ≡ nat_lt number (2 ^ 64) }
-{
-    let _has = number;
-    true
-}
-
-/// Whether a number has 32 bits, which it has.
-fn has_32_bits(number: u32) -> bool
-    ensures { result ≡ nat_lt number (2 ^ 32) }
-{
-    let _has = number;
-    true
-}
-
-fn is_record_place(place: &Place) -> bool
-    ensures { result ≡ specs.is_record_place place.now }
-{
-    has_64_bits(place.extent.0) && has_32_bits(place.offset) && has_32_bits(place.length)
-}
-
 fn is_record_index(index: &IndexRange) -> bool
     ensures { result ≡ specs.is_record_index index.now }
 {
-    is_record_place(&index.place) && are_record_keys(&index.keys)
-}
-
-fn is_record_position(position: &Position) -> bool
-    ensures { result ≡ specs.is_record_position position.now }
-{
-    has_64_bits(position.index) && has_32_bits(position.offset)
-}
-
-fn is_record_upto(upto: &Option<u64>) -> bool
-    ensures { result ≡ specs.is_record_upto upto.now }
-{
-    match upto {
-        None => true,
-        Some(index) => has_64_bits(*index),
-    }
-}
-
-fn is_record_next(next: u64) -> bool
-    ensures { result ≡ specs.is_record_next next }
-{
-    1 <= next && has_64_bits(next)
+    // For the clause: the numbers of its place have their bytes.
+    let _extent = index.place.extent.0;
+    let _offset = index.place.offset;
+    let _length = index.place.length;
+    are_record_keys(&index.keys)
 }
 
 fn is_record_region(region: &Region) -> bool
     ensures { result ≡ specs.is_record_region region.now }
 {
-    is_record_position(&region.start)
-        && is_record_upto(&region.end)
-        && is_record_next(region.next)
-        && are_record_keys(&region.keys)
+    // For the clause: the numbers of its position and of its end have their bytes.
+    let _index = region.start.index;
+    let _offset = region.start.offset;
+    let _upto = region.end.unwrap_or(0);
+    1 <= region.next && are_record_keys(&region.keys)
 }
 
 fn are_record_indexes(indexes: &[IndexRange]) -> bool
@@ -177,7 +138,7 @@ fn open_region(index: u64, left: &KeyRange, right: &KeyRange) -> Result<Region, 
     })
 }
 
-/// The indexes of the left range as the older ones, which stand last, and those of the right one. An error is out of memory (22).
+/// The indexes of the left range, and then those of the right one, the oldest of each first. An error is out of memory (22).
 fn joined_indexes(
     alloc: Global,
     left: &RangeState,
@@ -185,8 +146,8 @@ fn joined_indexes(
 ) -> Result<Vec<IndexRange>, AllocError>
     ensures { IfOk result (λ made. made.items ≡ specs.joined_indexes left.now right.now) }
 {
-    let mut made = cut_indexes(alloc, &right.content.said)?;
-    let mut others = cut_indexes(alloc, &left.content.said)?;
+    let mut made = cut_indexes(alloc, &left.content.said)?;
+    let mut others = cut_indexes(alloc, &right.content.said)?;
     made.append(&mut others)?;
     Ok(made)
 }

@@ -8,8 +8,8 @@ use std::alloc::{AllocError, Global};
 use std::marker::Model;
 use wire::{Modifies, Packet};
 
-/// How many packets go into the room: those of a step of a range, at most 1,400, and that of the merge.
-const MOST_PACKETS: usize = 1_401;
+/// How many packets go into the room: those of a step of a range, at most 1,400, and that of the merge, or the four of a checkpoint.
+const MOST_PACKETS: usize = 1_404;
 
 /// What a step of a merge takes of memory, where it comes behind a step of one of its ranges: the streams that are to be built, where
 /// they may be, and room for what both steps send.
@@ -27,7 +27,7 @@ impl Model for MergeRoom {
 
     ghost view = { λ room. room.streams };
 
-    ghost invariant = { λ room. (room.packets.items ≡ []) × (1401 ≤ vec_capacity room.packets) };
+    ghost invariant = { λ room. (room.packets.items ≡ []) × (1404 ≤ vec_capacity room.packets) };
 }
 
 impl MergeRoom {
@@ -61,7 +61,7 @@ impl MergeRoom {
         }
     }
 
-    /// Room for `give_up`, behind the range's own. An error is out of memory (22).
+    /// Room for `give_up` or `give_up_checkpoint`, behind the range's own. An error is out of memory (22).
     pub fn for_give_up(alloc: Global, job: &MergeJob) -> Result<MergeRoom, AllocError>
         ensures { IfOk result (λ room. room ≡ again_room_of job.now job.now.phase) }
     {

@@ -1,7 +1,7 @@
 //! What a step of a merge leaves.
-ghost use Rattle.std.specs.Prelude.{◌≡◌, ◌≤◌, ◌<◌, ◌+◌, ◌++◌, [], false, true, option_to_list, vec_len, vec_capacity};
+ghost use Rattle.std.specs.Prelude.{◌≡◌, [], false, true};
 
-use std::alloc::{AllocError, Global};
+use std::alloc::Global;
 use std::marker::Model;
 use wire::Packet;
 
@@ -62,25 +62,4 @@ impl MergeTaken {
             packets,
         }
     }
-}
-
-/// Adds a packet, if there is one, into room that is there.
-pub(crate) fn push_some(packets: &mut Vec<Packet>, packet: Option<Packet>)
-    requires { vec_len packets.old < vec_capacity packets.old }
-    ensures items { packets.new.items ≡ packets.old.items ++ option_to_list packet }
-    ensures grows { vec_len packets.new ≤ vec_len packets.old + 1 }
-{
-    if let Some(packet) = packet {
-        packets.push_reserved(packet);
-    }
-}
-
-/// Moves packets to the end of others, into room that is there.
-pub(crate) fn append_reserved(packets: &mut Vec<Packet>, mut more: Vec<Packet>)
-    requires { vec_len packets.old + vec_len more ≤ vec_capacity packets.old }
-    ensures items { packets.new.items ≡ packets.old.items ++ more.items }
-    ensures room { vec_capacity packets.old ≤ vec_capacity packets.new }
-{
-    let moved: Result<(), AllocError> = packets.append(&mut more);
-    moved.unwrap();
 }

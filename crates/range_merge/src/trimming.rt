@@ -153,7 +153,7 @@ pub fn left_trimmed(
         trims(left, before, count, blob);
         return Ok(parts(alloc, context));
     }
-    let taken = right.checkpoint(alloc, context, false)?;
+    let taken = right.freeze(alloc, context, false)?;
     trims(left, before, count, blob);
     job.phase = MergePhase::Checkpoint {
         side: MergeSide::Right,

@@ -15,12 +15,12 @@ ghost use Rattle.range_merge.specs.WriteAnswers.{is_writing, other_told, record_
 use crate::appends::send;
 use crate::departures::ends;
 use crate::records::record_of;
-use crate::taken::{MergeTaken, push_some};
+use crate::taken::MergeTaken;
 use crate::writing::completes;
 use client::{Appending, News, Reaction, StreamClient};
 use model_partition::{MergeJob, MergePhase, MergeRecord, ServerContext, take_answer};
 use range_checkpoint::appended;
-use range_core::RangeState;
+use range_core::{RangeState, push_some};
 use std::alloc::{AllocError, Global};
 use wire::{Body, Packet};
 

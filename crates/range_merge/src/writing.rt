@@ -9,10 +9,10 @@ ghost use Rattle.range_merge.specs.Steps.{goes_on, outcome, IsShort};
 use crate::appends::send;
 use crate::packets::{complete_packet, create_packet, joined_generation, metadata_name};
 use crate::records::record_of;
-use crate::taken::{MergeTaken, push_some};
+use crate::taken::MergeTaken;
 use client::{Appending, StreamClient};
 use model_partition::{MergeJob, MergePhase, MergeRecord, ServerContext, next_request};
-use range_core::RangeState;
+use range_core::{RangeState, push_some};
 use std::alloc::{AllocError, Global};
 use wire::{Packet, StreamExtents, StreamList};
 

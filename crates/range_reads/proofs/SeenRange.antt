@@ -76,4 +76,6 @@ is_used held (Some (Placed place)) = refl
 pub is_used_for : (held : Values) (indexes : List InstalledIndex) (key : List ℕ) (cell : Option Cell)
     → used_at (used_all held (pages_used indexes key cell)) (placed (found_cell (newest_cell (held_at held) indexes key cell))) ≡ used_for held indexes key cell
 is_used_for held indexes key None = is_used (used_all held (pages_of_key indexes key)) (found_cell (looked_up (held_at held) indexes key))
-is_used_for held indexes key (Some cell) = is_used held (Some cell)
+is_used_for held indexes key (Some Deleted) = refl
+is_used_for held indexes key (Some (Inline value)) = refl
+is_used_for held indexes key (Some (Placed place)) = refl

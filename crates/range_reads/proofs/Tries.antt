@@ -8,6 +8,7 @@ use Rattle.wire.specs.declared.refusal.Refusal.{Refusal}
 use Rattle.model_partition.specs.declared.server_context.ServerContext.{ServerContext}
 use Rattle.model_partition.specs.declared.waiting.WaitingGet.{WaitingGet}
 use Rattle.memtable.specs.declared.cell.Cell.{Cell}
+use Rattle.memtable.specs.declared.cell.Cell.TheVariants.{Deleted, Inline, Placed}
 use Rattle.checkpoint.specs.declared.installed_index.InstalledIndex.{InstalledIndex}
 use Rattle.model_partition.specs.Getting.{Lookup, Tried, look, held_at, indexed_value, standing, answered, try, try_all, try_fault, try_unless, without}
 use Rattle.model_partition.specs.Range.{RangeState, refuses}
@@ -68,4 +69,6 @@ refused d r g refusal packet fault is =
 -- the value of what a key has
 pub look_is : (held : Values) (indexes : List InstalledIndex) (key : List ℕ) (cell : Option Cell) → indexed_value held (newest_cell (held_at held) indexes key cell) ≡ look held indexes key cell
 look_is held indexes key None = refl
-look_is held indexes key (Some cell) = refl
+look_is held indexes key (Some Deleted) = refl
+look_is held indexes key (Some (Inline value)) = refl
+look_is held indexes key (Some (Placed place)) = refl

@@ -6,8 +6,7 @@ use Rattle.wire.specs.declared.packet.Packet.{Packet}
 use Rattle.memtable.specs.declared.cell.Cell.{Cell}
 use Rattle.checkpoint.specs.declared.installed_index.InstalledIndex.{InstalledIndex}
 use Rattle.checkpoint.specs.declared.page_lookup.Lookup.{Lookup as Indexed}
-use Rattle.checkpoint.specs.declared.page_lookup.Lookup.TheVariants as indexed
-use Rattle.checkpoint.specs.Lookup.{PageSource, looked_up}
+use Rattle.checkpoint.specs.Lookup.{PageSource, looked_up, lookup_of as indexed_of}
 use Rattle.model_partition.specs.declared.server_context.ServerContext.{ServerContext}
 use Rattle.model_partition.specs.declared.waiting.WaitingGet.{WaitingGet}
 use Rattle.model_partition.specs.Getting.{Lookup}
@@ -33,4 +32,4 @@ answer_of d g value = tells d g.from (bodies.Table (tables.Value g.request value
 -- what a key has: the cell of the memory table, or else what the indexes say
 abbrev pub newest_cell : PageSource → List InstalledIndex → List ℕ → Option Cell → Indexed
 newest_cell source indexes key None = looked_up source indexes key
-newest_cell source indexes key (Some cell) = indexed.Found cell
+newest_cell source indexes key (Some cell) = indexed_of cell

@@ -13,19 +13,14 @@ use crate::trying::refuses;
 use crate::value_cache::Fresh;
 use bytes::Bytes;
 use checkpoint_format::is_page;
-use model_partition::{PlaceRead, ServerContext, WaitingGet, is_same};
+use model_partition::{PlaceRead, ServerContext, WaitingGet};
 use std::alloc::{AllocError, Global};
 use wire::{ExtentId, Packet, Refusal, ReqNo};
 
 fn read_in(reads: &[PlaceRead], number: &ReqNo) -> Option<PlaceRead>
     ensures { result ≡ found_in reads.now number.now }
 {
-    for read in reads {
-        if is_same(&read.request, number) {
-            return Some(*read);
-        }
-    }
-    None
+    reads.iter().find(|read| read.request == *number).copied()
 }
 
 /// The read of this number.
@@ -81,24 +76,14 @@ pub(crate) fn fresh_of(
 fn is_awaited(reads: &[PlaceRead], number: &ReqNo) -> bool
     ensures { result ≡ list_any (λ read. are_same read.request number.now) reads.now }
 {
-    for read in reads {
-        if is_same(&read.request, number) {
-            return true;
-        }
-    }
-    false
+    reads.iter().any(|read| read.request == *number)
 }
 
 /// Whether a Get waits for an answer of this number.
 pub(crate) fn some_awaits(gets: &[WaitingGet], number: &ReqNo) -> bool
     ensures { result ≡ list_any (λ g. get_awaits g number.now) gets.now }
 {
-    for get in gets {
-        if is_awaited(&get.reads.items, number) {
-            return true;
-        }
-    }
-    false
+    gets.iter().any(|get| is_awaited(&get.reads.items, number))
 }
 
 /// Each Get is told that this server does not hold the range.

@@ -30,7 +30,7 @@ pub(crate) fn newest_cell(
         ≡ specs.newest_cell (held_at (specs.view_content view.now)) asking.now.indexes.now key.now (option_copied cell.entry)) }
 {
     if let Some(newest) = cell {
-        return Ok(Lookup::Found(newest.copy()?));
+        return Ok(Lookup::of(newest.copy()?));
     }
     lookup(asking.indexes.as_slice(), view, key)
 }

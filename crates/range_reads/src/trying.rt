@@ -1,5 +1,5 @@
 //! One try of a Get.
-ghost use Rattle.std.specs.Prelude.{ℕ, ◌≡◌, ◌+◌, ◌++◌, ◌∷◌, ◌<◌, ◌≤◌, ◌^◌, [], Some, None, filter, map, not, length, option_copied, option_to_list, IfOk, OnOk};
+ghost use Rattle.std.specs.Prelude.{ℕ, ◌≡◌, ◌+◌, ◌++◌, ◌∷◌, ◌<◌, ◌≤◌, ◌^◌, [], Some, None, filter, map, not, length, option_to_list, IfOk, OnOk};
 ghost use Rattle.client.specs.Requests.{is_same as are_same};
 ghost use Rattle.range_reads.specs.Lookups.{seen, tried_of};
 ghost use Rattle.range_reads.specs.Looking.{answer_of, newest_cell as newest_of, view_content};
@@ -18,7 +18,7 @@ use checkpoint::Lookup;
 use client::Place as Replica;
 use memtable::Place;
 use model_partition::{
-    PlaceRead, PlaceReads, ServerContext, WaitingGet, is_same, next_request, reads_place,
+    PlaceRead, PlaceReads, ServerContext, WaitingGet, next_request, reads_place,
 };
 use std::alloc::{AllocError, Global};
 use wire::{ActorId, AppendBody, Body, Packet, Refusal, ReqNo, TableBody};
@@ -189,13 +189,11 @@ fn other_reads(
 ) -> Result<Vec<PlaceRead>, AllocError>
     ensures { IfOk result (λ made. made.items ≡ filter (λ read. not (are_same read.request answered.now)) reads.now) }
 {
-    let mut made = Vec::with_capacity(alloc, reads.len())?;
-    for read in reads {
-        if !is_same(&read.request, answered) {
-            made.push(*read)?;
-        }
-    }
-    Ok(made)
+    reads
+        .iter()
+        .filter(|read| read.request != *answered)
+        .copied()
+        .collect(alloc)
 }
 
 /// The Get without the read that was answered. It shares its key.

@@ -52,12 +52,6 @@ pub(crate) struct Fresh {
     pub(crate) bytes: Bytes,
 }
 
-pub(crate) fn is_same_place(one: &Place, other: &Place) -> bool
-    ensures { result ≡ is_place one.now other.now }
-{
-    one.extent.0 == other.extent.0 && one.offset == other.offset && one.length == other.length
-}
-
 /// Pages and values by their places, the most recently used first.
 #[derive(Drop)]
 pub(crate) struct ValueCache {
@@ -111,7 +105,7 @@ impl ValueCache {
     fn value_beside<'a>(&'a self, fresh: &'a Fresh, place: &Place) -> Option<&'a Bytes>
         ensures { option_copied result ≡ held_at (with_fresh self.now (Some fresh.now)) place.now }
     {
-        if is_same_place(place, &fresh.place) {
+        if *place == fresh.place {
             return Some(&fresh.bytes);
         }
         if self.goes_for(&fresh.place, place) {

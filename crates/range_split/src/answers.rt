@@ -16,7 +16,7 @@ use wire::{AppendBody, Body, MapBody, Packet, RangeId, Refusal, SealBody, Stream
 fn may_checkpoint(state: &RangeState) -> bool
     ensures value { result ≡ rules.may_checkpoint state.now }
 {
-    state.checkpoint_fault().is_none() && state.have_bytes()
+    state.checkpoint_fault().is_none()
 }
 
 /// Whether the records of the checkpoint, of the split, and of the keys of the two have numbers, and one is left after them.
@@ -45,7 +45,7 @@ fn begun(
         return Ok(SplitTaken::rests(alloc, context.count));
     }
     let number = state.content.said.next + 1;
-    let taken = state.checkpoint(alloc, context, false)?;
+    let taken = state.freeze(alloc, context, false)?;
     job.low = low;
     job.high = high;
     job.number = number;

@@ -9,13 +9,13 @@ use crate::appends::send;
 use crate::next_packet::{NextPacket, has_number};
 use crate::room::SplitRoom;
 use crate::seals::{first_open, seals_or_builds};
-use crate::taken::{SplitTaken, append_reserved, push_some};
+use crate::taken::SplitTaken;
 use client::{Appending, Job};
 use model_partition::{Pause, ServerContext, SplitJob, SplitPhase};
-use range_core::RangeState;
+use range_core::{RangeState, append_reserved, push_some};
 use wire::{Modifies, Packet};
 
-/// The range is paused, and the record of its split is appended to its metadata.
+/// The range is paused, since no transaction waits, and the record of its split is appended to its metadata.
 fn pauses_and_records(
     context: &ServerContext,
     state: &mut RangeState,
@@ -23,10 +23,11 @@ fn pauses_and_records(
     blocks: Appending,
 ) -> NextPacket
     requires numbers { context.now.count + 1 < 2 ^ 64 }
+    requires drained { rules.is_drained state.old ≡ true }
     requires blocks { blocks ≡ spelling (rules.split_record job.old) ∷ [] }
     ensures { rules.pauses_and_records context.now state.old job.old ≡ goes_on state.new job.new result.count result.packet }
 {
-    state.pause = Pause::On;
+    state.pause();
     let packet = send(&mut state.content.metadata, context, blocks);
     job.phase = SplitPhase::Record;
     NextPacket::sends(context, packet)

@@ -12,11 +12,11 @@ use crate::next_packet::{NextPacket, has_number};
 use crate::packets::{begin_packet, build_packet, complete_packet, seal_packet};
 use crate::room::SplitRoom;
 use crate::seals::{extents_of, open_last};
-use crate::taken::{SplitTaken, append_reserved, push_some};
+use crate::taken::SplitTaken;
 use bytes::Bytes;
 use client::StreamClient;
 use model_partition::{ServerContext, SplitJob, SplitPhase, next_request};
-use range_core::RangeState;
+use range_core::{RangeState, append_reserved, push_some};
 use wire::{Modifies, Packet, ReqNo, StreamKind};
 
 /// The last extent of a stream is to be sealed, where it is still open.

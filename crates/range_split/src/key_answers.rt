@@ -12,11 +12,11 @@ ghost use Rattle.range_split.specs.Steps.{outcome, IsShort};
 
 use crate::packets::complete_packet;
 use crate::side_metadata::says_keys;
-use crate::taken::{SplitTaken, push_some};
+use crate::taken::SplitTaken;
 use client::{News, Reaction, StreamClient};
 use model_partition::{ServerContext, Side, SplitJob, SplitPhase, next_request, take_answer};
 use range_checkpoint::appended;
-use range_core::RangeState;
+use range_core::{RangeState, push_some};
 use std::alloc::{AllocError, Global};
 use wire::{Body, Packet};
 

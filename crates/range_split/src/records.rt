@@ -1,5 +1,5 @@
 //! The records that a split writes: that of the split itself, and those of the keys of the two ranges.
-ghost use Rattle.std.specs.Prelude.{◌≡◌, ◌∷◌, ◌<◌, ◌^◌, [], true, nat_lt, IfOk};
+ghost use Rattle.std.specs.Prelude.{◌≡◌, ◌∷◌, ◌<◌, ◌^◌, [], true, IfOk};
 ghost use Rattle.metadata.specs.declared.record.MetaItem.TheVariants.{Ranges};
 ghost use Rattle.metadata.specs.Record.{IsHigh, IsKey, IsKeyRange, spelling};
 ghost use Rattle.model_partition.specs.Splits as rules;
@@ -49,21 +49,6 @@ fn fit_range(range: u64) -> RangeId
     RangeId(range)
 }
 
-/// Whether the number of a range has 64 bits, which it has.
-fn has_64_bits(range: u64) -> bool
-    ensures { result ≡ nat_lt range (2 ^ 64) }
-{
-    let _has = range;
-    true
-}
-
-/// Whether the numbers of the two ranges have 64 bits.
-fn have_range_numbers(job: &SplitJob) -> bool
-    ensures { result ≡ rules.have_range_numbers job.now }
-{
-    has_64_bits(job.low.0) && has_64_bits(job.high.0)
-}
-
 /// The same key again, which shares its bytes.
 fn copied_key(key: &Bytes) -> Result<Bytes, AllocError>
     requires { IsKey key.now }
@@ -79,7 +64,10 @@ fn has_record(job: &SplitJob) -> bool
     ensures number { result ≡ true → 0 < job.now.number }
     ensures key { result ≡ true → IsKey job.now.key }
 {
-    0 < job.number && have_range_numbers(job) && is_record_key(&job.key)
+    // For the clause: the numbers of the two ranges have 64 bits.
+    let _low = job.low.0;
+    let _high = job.high.0;
+    0 < job.number && is_record_key(&job.key)
 }
 
 /// The record of a split under a number, ready to be appended.

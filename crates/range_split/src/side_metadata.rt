@@ -7,10 +7,10 @@ ghost use Rattle.range_split.specs.Steps.{goes_on, outcome, IsShort};
 
 use crate::appends::send;
 use crate::records::{keys_record, may_say_keys};
-use crate::taken::{SplitTaken, push_some};
+use crate::taken::SplitTaken;
 use client::{Appending, StreamClient};
 use model_partition::{ServerContext, Side, SplitJob, SplitPhase};
-use range_core::RangeState;
+use range_core::{RangeState, push_some};
 use std::alloc::{AllocError, Global};
 use wire::{Packet, RangeId, StreamExtents, StreamKind, StreamList, StreamName};
 

@@ -1,7 +1,7 @@
 //! What a step of a split leaves.
-ghost use Rattle.std.specs.Prelude.{◌≡◌, ◌+◌, ◌<◌, ◌≤◌, ◌++◌, [], true, false, vec_len, vec_capacity, option_to_list};
+ghost use Rattle.std.specs.Prelude.{◌≡◌, [], true, false};
 
-use std::alloc::{AllocError, Global};
+use std::alloc::Global;
 use std::marker::Model;
 use wire::Packet;
 
@@ -54,25 +54,4 @@ impl SplitTaken {
             packets,
         }
     }
-}
-
-/// Adds a packet, if there is one, into room that is there.
-pub(crate) fn push_some(packets: &mut Vec<Packet>, packet: Option<Packet>)
-    requires { vec_len packets.old < vec_capacity packets.old }
-    ensures items { packets.new.items ≡ packets.old.items ++ option_to_list packet }
-    ensures grows { vec_len packets.new ≤ vec_len packets.old + 1 }
-{
-    if let Some(packet) = packet {
-        packets.push_reserved(packet);
-    }
-}
-
-/// Moves packets to the end of others, into room that is there.
-pub(crate) fn append_reserved(packets: &mut Vec<Packet>, mut more: Vec<Packet>)
-    requires { vec_len packets.old + vec_len more ≤ vec_capacity packets.old }
-    ensures items { packets.new.items ≡ packets.old.items ++ more.items }
-    ensures room { vec_capacity packets.old ≤ vec_capacity packets.new }
-{
-    let moved: Result<(), AllocError> = packets.append(&mut more);
-    moved.unwrap();
 }

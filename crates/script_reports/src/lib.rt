@@ -2,18 +2,16 @@
 //!
 //! This crate touches memory only, and prints nothing. It offers the program above it the text of each line exactly, and of
 //! each packet to a user and each observation the line that tells it, if one does. Of a line that is printed often it gives the text
-//! with its newline in one piece. It finds the refusal of a number.
+//! with its newline in one piece.
 #![tactic(auto)]
 
 mod hex_text;
 mod line;
-mod refusals;
 mod report;
 mod short_line;
 mod telling;
 
 pub use hex_text::HexText;
-pub use refusals::refusal_by_number;
 pub use report::{Answer, Report, Standing};
 pub use short_line::{ShortLine, short_line_of};
 pub use telling::{report_answer, report_note};

@@ -1,7 +1,7 @@
 //! Which packets a settle may still take.
 ghost use Rattle.std.specs.Prelude.{◌≡◌, ◌<◌, ℕ, [], IfNone, IfOk, IfSome, OnErr, OnOk, length};
 ghost use Rattle.std.specs.List.{slice_get};
-ghost use Rattle.script_run.specs.Deliveries.{Delivered, IsLowest, NoneLeft, Passed, is_cut, is_noted, is_same};
+ghost use Rattle.script_run.specs.Deliveries.{Delivered, IsLowest, NoneLeft, Passed, is_cut, is_noted};
 
 use std::alloc::{AllocError, Global};
 use std::marker::Model;
@@ -24,13 +24,6 @@ impl Model for Deliveries {
 
     // Looking begins at the lowest, since all below it are noted.
     ghost invariant = { λ d. (n : ℕ) → n < d.lowest → is_noted d.noted.items n ≡ true };
-}
-
-/// Whether both are one actor.
-pub fn is_same(one: &ActorId, other: &ActorId) -> bool
-    ensures { result ≡ is_same one.now other.now }
-{
-    one == other
 }
 
 /// Whether packet `number` is to one of these actors.

@@ -1,10 +1,8 @@
 //! How one event of a run happens, and what is printed of it.
-ghost use Rattle.std.specs.Prelude.{◌≡◌, IfErr, IfOk, OnOk, Option, Some, option_map};
+ghost use Rattle.std.specs.Prelude.{◌≡◌, IfErr, IfOk, OnOk, Some, option_map};
 ghost use Rattle.script_reports.specs.declared.report.Report.TheVariants.{Refused};
 ghost use Rattle.script_run.specs.Failures.{IsRunFailure};
 ghost use Rattle.script_run.specs.Output.{Prints, PrintsEvent, node_report, replica_report, standing_of};
-ghost use Rattle.wire.specs.Refusal.{number_of};
-ghost use Rattle.wire.specs.declared.refusal.Refusal.{Refusal as AnyRefusal};
 ghost use Rattle.enode.specs.Node.{find};
 ghost use Rattle.world_streams.specs.Nodes.{running_at};
 ghost use Rattle.model_streams.specs.Node.{contents};
@@ -16,21 +14,11 @@ use crate::printing::{print_since, print_some};
 use disk::MemDisk;
 use enode::Node;
 use replica::{Phase, Replica};
-use script_reports::{Report, Standing, refusal_by_number};
+use script_reports::{Report, Standing};
 use std::alloc::Global;
 use std::io::Write;
 use wire::ExtentId;
-use world::{Event, Run, WorldFault};
-
-/// What is printed of an event that was refused with this number.
-fn refusal_report(number: Option<u8>) -> Option<Report>
-    ensures { (refusal : Option AnyRefusal) → number ≡ option_map number_of refusal → result ≡ option_map Refused refusal }
-{
-    match refusal_by_number(number?) {
-        Some(refusal) => Some(Report::Refused(refusal)),
-        None => None,
-    }
-}
+use world::{Event, Run};
 
 /// The event happens, and what is printed where it is refused. It is handed over whole, since one that lives on is dropped
 /// at each exit.
@@ -39,10 +27,8 @@ fn step(run: &mut Run, alloc: Global, event: Event) -> Result<Option<Report>, Fa
     ensures refusal { IfOk result (λ report. report ≡ option_map Refused (refusal_of run.old event)) }
     ensures failed { IfErr result IsRunFailure }
 {
-    match run.step(alloc, &event) {
-        Ok(number) => Ok(refusal_report(number)),
-        Err(WorldFault::Memory) => Err(Failure::Memory),
-    }
+    let refusal = run.advance(alloc, &event)?;
+    Ok(refusal.map(Report::Refused))
 }
 
 /// An event happens: where it is refused that is printed, and then what is observed of it.

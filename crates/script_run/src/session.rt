@@ -7,7 +7,7 @@ ghost use Rattle.script_run.specs.Output.{Prints};
 ghost use Rattle.script_run.specs.Playing.{Delivers, DeliversPacket, Happens, IsFresh, IsSettled, Plays, Settles, Submits};
 ghost use Rattle.world.specs.Cluster.{ClusterMirrors};
 
-use crate::deliveries::{Deliveries, is_same};
+use crate::deliveries::Deliveries;
 use crate::error::Failure;
 use crate::happening::{happen, look};
 use crate::printing::{print, print_some};
@@ -18,7 +18,7 @@ use std::alloc::{AllocError, Global};
 use std::io::Write;
 use std::marker::Model;
 use wire::{ActorId, ReqNo};
-use world::{Event, Run, Setup, WorldFault};
+use world::{Event, Run, Setup};
 
 /// The most packets that one settle delivers.
 const MOST_DELIVERIES: usize = 100_000;
@@ -45,7 +45,7 @@ impl Model for Session {
 fn take_out(cut: &mut Vec<ActorId>, actor: ActorId)
     ensures { cut.new.items ≡ filter (λ other. not (is_same other actor)) cut.old.items }
 {
-    cut.retain(|other| !is_same(other, &actor));
+    cut.retain(|other| *other != actor);
 }
 
 impl Session {
@@ -56,16 +56,13 @@ impl Session {
             (first_cluster setup.now.nodes setup.now.servers setup.now.target setup.now.batch)) }
         ensures failed { IfErr result IsRunFailure }
     {
-        match Run::start(alloc, setup) {
-            Ok(run) => Ok(Session {
-                alloc,
-                run,
-                deliveries: Deliveries::new(alloc),
-                tickets: Tickets::new(alloc),
-                cut: Vec::new(alloc),
-            }),
-            Err(WorldFault::Memory) => Err(Failure::Memory),
-        }
+        Ok(Session {
+            alloc,
+            run: Run::start(alloc, setup)?,
+            deliveries: Deliveries::new(alloc),
+            tickets: Tickets::new(alloc),
+            cut: Vec::new(alloc),
+        })
     }
 
     /// Runs a line, and prints what is observed and answered. An error is out of memory (22), or that the writer failed.

@@ -436,14 +436,11 @@ fn seen_of(note: &Note) -> Option<Observed> {
 }
 
 fn are_observed(notes: &[Note], wanted: &[Observed]) -> bool {
-    let mut count = 0usize;
-    for note in notes {
-        if wanted.get(count).copied() != seen_of(note) {
-            return false;
-        }
-        count = count.saturating_add(1);
-    }
-    count == wanted.len()
+    notes.len() == wanted.len()
+        && notes
+            .iter()
+            .zip(wanted)
+            .all(|(note, one)| seen_of(note) == Some(*one))
 }
 
 /// Whether the steps of a case go as it says, over a new stream layer.

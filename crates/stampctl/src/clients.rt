@@ -112,13 +112,11 @@ fn asks(alloc: Global, run: &mut Run, server: u8, packet: Packet, cut: &[u8]) ->
 /// The first packet to a server from this one on.
 fn answer(stream_layer: &StreamLayer, server: u8, from: usize) -> Option<&Packet> {
     let to = ActorId::Server(ServerNo(server));
-    let sent = stream_layer.sent();
-    for number in from..sent.len() {
-        if sent[number].to == to {
-            return Some(&sent[number]);
-        }
-    }
-    None
+    stream_layer
+        .sent()
+        .iter()
+        .skip(from)
+        .find(|packet| packet.to == to)
 }
 
 fn log_of(alloc: Global, server: u8, list: &StreamList) -> Result<StreamClient, AllocError> {

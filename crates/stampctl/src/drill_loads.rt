@@ -109,12 +109,7 @@ fn is_at_number(values: &[Option<u8>], side: &Side, value: Option<u8>, number: u
 
 /// Whether a key may have this value after as many transactions as may be.
 fn is_at_some(values: &[Option<u8>], side: &Side, value: Option<u8>) -> bool {
-    for number in side.done..=side.begun {
-        if is_at_number(values, side, value, number) {
-            return true;
-        }
-    }
-    false
+    (side.done..=side.begun).any(|number| is_at_number(values, side, value, number))
 }
 
 /// Whether a load may show this, which has these next number.

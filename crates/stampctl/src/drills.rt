@@ -177,14 +177,10 @@ fn sealed_by(packet: &Packet) -> Option<ExtentId> {
 
 /// The next extent that was asked to be sealed, and how many packets there are up to that one.
 fn next_seal(sent: &[Packet], looked: usize) -> Option<(ExtentId, usize)> {
-    for number in looked..sent.len() {
-        if let Some(packet) = sent.get(number)
-            && let Some(extent) = sealed_by(packet)
-        {
-            return Some((extent, number.saturating_add(1)));
-        }
-    }
-    None
+    sent.iter().enumerate().skip(looked).find_map(|(number, packet)| Some((
+        sealed_by(packet)?,
+        number.saturating_add(1),
+    )))
 }
 
 /// Delivers all, and has each extent sealed for which that is asked, until nothing more follows.

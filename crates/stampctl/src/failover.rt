@@ -1,12 +1,12 @@
 //! A server, a node or the manager stops after each delivery of a run with transactions, or with a checkpoint among them, comes back,
-//! and the range is assigned again: each load has what was done by then.
+//! and the range is assigned again: each load ends, and has what was done by then.
 use crate::drives::{
     Drive, Fault, begun, changes_of, checkpoint_of, seal_of, settle, step, transaction,
     unless_failed,
 };
 use std::alloc::Global;
 use std::test::Fail;
-use wire::{ActorId, Note, Row, ServerNo};
+use wire::{ActorId, Body, Fence, MapBody, Note, Packet, Row, ServerNo};
 use world::Setup;
 
 /// What happens in a run, after which all that is sent comes.
@@ -41,11 +41,31 @@ struct Begun {
     length: usize,
 }
 
-/// What was observed of the range up to some observation: what each number puts, and the highest number that is done.
+/// How many there were, of loads that ended or of assignments, and the generation of the last of them.
+#[derive(Clone, Copy)]
+struct Generations {
+    count: usize,
+    last: Fence,
+}
+
+const NONE: Generations = Generations {
+    count: 0,
+    last: Fence(0),
+};
+
+/// What was observed of the range up to some observation: what each number puts, the highest number that is done, and the loads.
 #[derive(Clone, Copy)]
 struct Seen {
     begun: [Begun; 8],
     done: u64,
+    loads: Generations,
+}
+
+fn count_one(generations: &mut Generations, last: Fence) {
+    *generations = Generations {
+        count: generations.count.saturating_add(1),
+        last,
+    };
 }
 
 fn make_act(drive: &mut Drive, alloc: Global, act: Act) -> Result<(), Fail> {
@@ -99,33 +119,46 @@ fn is_right(seen: &mut Seen, note: &Note) -> bool {
             seen.done = seen.done.max(*number);
             true
         }
-        Note::Loaded { rows, next, .. } => match seen
-            .begun
-            .get(..(*next).saturating_sub(1) as usize)
-        {
-            Some(begun) => seen.done < *next && are_of(&rows.items, begun),
-            None => false,
-        },
+        Note::Loaded {
+            generation,
+            rows,
+            next,
+            ..
+        } => {
+            count_one(&mut seen.loads, *generation);
+            match seen.begun.get(..(*next).saturating_sub(1) as usize) {
+                Some(begun) => seen.done < *next && are_of(&rows.items, begun),
+                None => false,
+            }
+        }
         _ => true,
     }
 }
 
-/// How many loads there were, where each is right.
-fn right_loads(notes: &[Note]) -> Option<usize> {
+/// The loads that ended, where each is right.
+fn right_loads(notes: &[Note]) -> Option<Generations> {
     let mut seen = Seen {
         begun: [Begun { key: 0, length: 0 }; 8],
         done: 0,
+        loads: NONE,
     };
-    let mut loads: usize = 0;
     for note in notes {
         if !is_right(&mut seen, note) {
             return None;
         }
-        if let Note::Loaded { .. } = note {
-            loads = loads.saturating_add(1);
+    }
+    Some(seen.loads)
+}
+
+/// The assignments that the map told the server.
+fn assignments(sent: &[Packet]) -> Generations {
+    let mut all = NONE;
+    for packet in sent {
+        if let Body::Map(MapBody::Assign { generation, .. }) = &packet.body {
+            count_one(&mut all, *generation);
         }
     }
-    Some(loads)
+    all
 }
 
 fn act_all(drive: &mut Drive, alloc: Global, acts: &[Act], fault: &Fault) -> Result<(), Fail> {
@@ -144,12 +177,29 @@ fn driven(alloc: Global, setup: &Setup, acts: &[Act], fault: &Fault) -> Result<D
     unless_failed(drive, done)
 }
 
-/// A run with this fault has one load or two, each right.
-fn is_right_after(alloc: Global, setup: &Setup, acts: &[Act], fault: &Fault) -> Result<bool, Fail> {
+/// Whether the load of each assignment has ended and is right. The fault may cut off the first one, where it was under way.
+fn is_well(drive: &Drive, is_under_way: bool) -> bool {
+    let assigned = assignments(drive.run.sent());
+    match right_loads(drive.run.observations()) {
+        Some(loads) => {
+            loads.last == assigned.last && (loads.count == assigned.count || is_under_way)
+        }
+        None => false,
+    }
+}
+
+/// Whether a run with this fault is well. The first load takes so many deliveries.
+fn is_well_after(
+    alloc: Global,
+    setup: &Setup,
+    acts: &[Act],
+    opening: usize,
+    fault: &Fault,
+) -> Result<bool, Fail> {
     let drive = driven(alloc, setup, acts, fault)?;
-    let loads = right_loads(drive.run.observations());
+    let well = is_well(&drive, fault.after < opening);
     drop(drive);
-    Ok(loads == Some(1) || loads == Some(2))
+    Ok(well)
 }
 
 /// How many packets a run without a fault delivers.
@@ -164,7 +214,7 @@ fn deliveries(alloc: Global, setup: &Setup, acts: &[Act]) -> Result<usize, Fail>
     Ok(delivered)
 }
 
-/// After how many deliveries, above so many, a stop of the actor leaves a load that is not right, if any.
+/// After how many deliveries, above so many, a stop of the actor leaves a load that is not right or does not end, if any.
 fn wrong_after(
     alloc: Global,
     setup: &Setup,
@@ -172,10 +222,11 @@ fn wrong_after(
     first: usize,
     actor: ActorId,
 ) -> Result<Option<usize>, Fail> {
+    let opening = deliveries(alloc, setup, &[])?;
     let whole = deliveries(alloc, setup, acts)?;
     for after in first..=whole {
         let fault = Fault { actor, after };
-        if !is_right_after(alloc, setup, acts, &fault)? {
+        if !is_well_after(alloc, setup, acts, opening, &fault)? {
             return Ok(Some(after));
         }
     }
@@ -192,7 +243,7 @@ const ACTORS: [ActorId; 5] = [
 ];
 
 #[test]
-fn each_load_has_what_was_done(rt: HostRuntime) -> Result<(), Fail> {
+fn each_load_ends_with_what_was_done(rt: HostRuntime) -> Result<(), Fail> {
     let Some(setup) = Setup::new(3, 1, 4096, 1) else {
         return Err(Fail::from("no setup"));
     };
@@ -204,7 +255,7 @@ fn each_load_has_what_was_done(rt: HostRuntime) -> Result<(), Fail> {
 }
 
 #[test]
-fn each_load_has_what_was_done_through_a_checkpoint(rt: HostRuntime) -> Result<(), Fail> {
+fn each_load_ends_with_what_was_done_through_a_checkpoint(rt: HostRuntime) -> Result<(), Fail> {
     let Some(setup) = Setup::new(3, 1, 4096, 1) else {
         return Err(Fail::from("no setup"));
     };

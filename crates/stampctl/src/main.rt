@@ -72,6 +72,8 @@ mod many_values;
 #[cfg(test)]
 mod maps;
 #[cfg(test)]
+mod merge_giving_up;
+#[cfg(test)]
 mod merge_scripts;
 #[cfg(test)]
 mod page_rows;
@@ -87,6 +89,8 @@ mod requests;
 mod rows;
 #[cfg(test)]
 mod runs;
+#[cfg(test)]
+mod same_runs;
 #[cfg(test)]
 mod scripts_run;
 #[cfg(test)]

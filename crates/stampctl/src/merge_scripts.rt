@@ -1,5 +1,6 @@
 //! Scripts in which a server merges two ranges, and what they print. What is wanted was worked out by hand from the rules.
-use crate::printed::{goes_on, prints};
+use crate::printed::Part::{Delivers, Lines};
+use crate::printed::{Part, goes_on, prints, script_of};
 use std::test::Fail;
 
 /// What each shows, the script, and its whole output.
@@ -31,35 +32,121 @@ const SCRIPTS: &[(&str, &str, &str)] = &[
     ),
 ];
 
-/// The first part of a script in which two ranges with logs of two extents are merged, up to the Trim of the left one's checkpoint,
-/// packet 323.
+/// The first part of a script in which two ranges with logs of two extents are merged. The server makes a checkpoint of either, which
+/// ends with a Trim of its log: the left one's is packet 323.
 const BEGUN: &str =
-    "setup 3 1 4096 1\nmoment 1\nassign 1 1 100\nsettle\nuser 1 tx 1 1 +a=1 +z=2\nsettle\nsplit 1 1 m\nsettle\ndecide 3\nsettle\ndecide 1\nsettle\ndecide 2\nsettle\nassign 2 1 100\nassign 3 1 100\nsettle\nuser 1 tx 1 2 +b=3\nsettle\nuser 1 tx 1 3 +y=4\nsettle\nuser 1 seal 6\nuser 1 seal 7\nsettle\ndecide 6\ndecide 7\nsettle\nuser 1 tx 1 2 +c=5\nsettle\nuser 1 tx 1 3 +x=6\nsettle\nmerge 1 2 3\ndeliver 298\ndeliver 299\ndeliver 300\ndeliver 301\ndeliver 302\ndeliver 303\ndeliver 304\ndeliver 305\ndeliver 306\ndeliver 307\ndeliver 308\ndeliver 309\ndeliver 310\ndeliver 311\ndeliver 312\ndeliver 313\ndeliver 314\ndeliver 315\ndeliver 316\ndeliver 317\ndeliver 318\ndeliver 319\ndeliver 320\ndeliver 321\ndeliver 322\n";
+    "setup 3 1 4096 1\nmoment 1\nassign 1 1 100\nsettle\nuser 1 tx 1 1 +a=1 +z=2\nsettle\nsplit 1 1 m\nsettle\ndecide 3\nsettle\ndecide 1\nsettle\ndecide 2\nsettle\nassign 2 1 100\nassign 3 1 100\nsettle\nuser 1 tx 1 2 +b=3\nsettle\nuser 1 tx 1 3 +y=4\nsettle\nuser 1 seal 6\nuser 1 seal 7\nsettle\ndecide 6\ndecide 7\nsettle\nuser 1 tx 1 2 +c=5\nsettle\nuser 1 tx 1 3 +x=6\nsettle\nmerge 1 2 3\n";
 
-/// What it prints.
+/// What it prints, and what the checkpoint of the left range does up to its Trim.
 const TOLD: &str =
     "loaded 1 1 1 0\nbegan 1 1 1\nacked 1 0 33\ndone 1 1 1\nuser 1 0 committed 1\nacked 2 0 20\nacked 2 20 28\nacked 3 0 46\nacked 3 46 28\nsealed 3 74\nsealed 1 33\nsealed 2 48\nacked 4 0 15\nacked 5 0 15\nsplit 1 2 3 6d\ncontent 3 1 74 2\ncontent 3 1 74 2\nseen 4 1 0 15\nseen 5 1 0 15\ncontent 1 1 33 1\ncontent 1 1 33 1\nseen 2 1 20 28\nseen 2 1 20 28\nloaded 2 2 2 1\nloaded 3 2 2 1\nbegan 2 2 2\nacked 6 0 24\ndone 2 2 2\nuser 1 1 committed 2\nbegan 3 2 2\nacked 7 0 24\ndone 3 2 2\nuser 1 2 committed 2\nsealed 6 24\nsealed 7 24\nuser 1 3 sealedis 6 24\nuser 1 4 sealedis 7 24\nbegan 2 2 3\nacked 8 0 24\ndone 2 2 3\nuser 1 5 committed 3\nbegan 3 2 3\nacked 9 0 24\ndone 3 2 3\nuser 1 6 committed 3\nacked 10 0 20\nacked 10 20 28\nacked 4 15 46\n";
 
-/// What each shows, and how such a script and its output go on. The right Trim is packet 364, or 365 where the left one came twice.
-const TRIMS: &[(&str, &str, &str)] = &[
+/// A transaction of either range, while the merge is under way.
+const MEANWHILE: &str = "user 1 tx 1 2 +d=7 -a\nuser 1 tx 1 3 +w=8 -z\n";
+
+/// The new range is assigned.
+const ASSIGNED: &str = "assign 4 1 100\n";
+
+/// All keys of the new range are asked for.
+const GETS: &str =
+    "user 1 get 1 4 a\nuser 1 get 1 4 b\nuser 1 get 1 4 c\nuser 1 get 1 4 d\nuser 1 get 1 4 w\nuser 1 get 1 4 x\nuser 1 get 1 4 y\nuser 1 get 1 4 z\n";
+
+/// What each shows, how such a script goes on, and what that prints. Each names all packets that are delivered: if one were not sent, the
+/// Gets would have other numbers, and some would not come.
+const TRIMS: &[(&str, &[Part], &str)] = &[
     (
-        "Trims that come once",
-        "deliver 323\ndeliver 324\nuser 1 tx 1 2 +d=7 -a\nuser 1 tx 1 3 +w=8 -z\nsettle\ndecide 8\nsettle\ndecide 10\nsettle\ndecide 9\nsettle\ndecide 11\nsettle\nassign 4 1 100\nsettle\nuser 1 get 1 4 a\nuser 1 get 1 4 b\nuser 1 get 1 4 c\nuser 1 get 1 4 d\nuser 1 get 1 4 w\nuser 1 get 1 4 x\nuser 1 get 1 4 y\nuser 1 get 1 4 z\nsettle\n",
+        "Trims that come once, in their turn",
+        &[
+            Delivers(298, 324),
+            Lines(MEANWHILE),
+            Delivers(325, 375),
+            Lines("decide 8\n"),
+            Delivers(376, 395),
+            Lines("decide 10\n"),
+            Delivers(396, 415),
+            Lines("decide 9\n"),
+            Delivers(416, 435),
+            Lines("decide 11\n"),
+            Delivers(436, 468),
+            Lines(ASSIGNED),
+            Delivers(469, 493),
+            Lines(GETS),
+            Delivers(494, 521),
+        ],
         "began 2 2 4\nbegan 3 2 4\nacked 8 24 28\nacked 9 24 28\nacked 11 0 20\ndone 2 2 4\ndone 3 2 4\nuser 1 7 committed 4\nuser 1 8 committed 4\nacked 11 20 28\nacked 5 15 46\nsealed 8 52\nsealed 10 48\nsealed 9 52\nsealed 11 48\nacked 12 0 14\nacked 12 14 203\nmerged 2 3 4\nseen 12 1 0 217\ncontent 8 1 52 2\ncontent 9 1 52 2\nseen 2 1 20 28\nseen 10 1 20 28\nseen 2 1 20 28\nseen 11 1 20 28\nloaded 4 3 1 6\nuser 1 9 value none\nseen 10 1 0 20\nseen 10 1 0 20\nuser 1 12 value 37\nuser 1 13 value 38\nseen 11 1 0 20\nseen 11 1 0 20\nuser 1 16 value none\nuser 1 10 value 33\nuser 1 11 value 35\nseen 11 1 0 20\nseen 11 1 0 20\nuser 1 14 value 36\nuser 1 15 value 34\n",
     ),
     (
-        "a left Trim that comes late, behind a transaction of either range",
-        "cut m\nsettle\nheal m\nuser 1 tx 1 2 +d=7 -a\nuser 1 tx 1 3 +w=8 -z\nsettle\ndeliver 323\nsettle\ndecide 8\nsettle\ndecide 10\nsettle\ndecide 9\nsettle\ndecide 11\nsettle\nassign 4 1 100\nsettle\nuser 1 get 1 4 a\nuser 1 get 1 4 b\nuser 1 get 1 4 c\nuser 1 get 1 4 d\nuser 1 get 1 4 w\nuser 1 get 1 4 x\nuser 1 get 1 4 y\nuser 1 get 1 4 z\nsettle\n",
+        "a left Trim that comes late, after a transaction of either range",
+        &[
+            Delivers(298, 322),
+            Lines(MEANWHILE),
+            Delivers(324, 339),
+            Delivers(323, 323),
+            Delivers(340, 375),
+            Lines("decide 8\n"),
+            Delivers(376, 395),
+            Lines("decide 10\n"),
+            Delivers(396, 415),
+            Lines("decide 9\n"),
+            Delivers(416, 435),
+            Lines("decide 11\n"),
+            Delivers(436, 468),
+            Lines(ASSIGNED),
+            Delivers(469, 493),
+            Lines(GETS),
+            Delivers(494, 529),
+        ],
         "began 2 2 4\nbegan 3 2 4\nacked 8 24 28\nacked 9 24 28\ndone 2 2 4\ndone 3 2 4\nuser 1 7 committed 4\nuser 1 8 committed 4\nacked 11 0 33\nacked 11 33 28\nacked 5 15 46\nsealed 8 52\nsealed 10 48\nsealed 9 52\nsealed 11 61\nacked 12 0 14\nacked 12 14 203\nmerged 2 3 4\nseen 12 1 0 217\ncontent 8 1 52 2\ncontent 9 1 52 2\nseen 2 1 20 28\nseen 10 1 20 28\nseen 2 1 20 28\nseen 11 1 33 28\nloaded 4 3 1 6\nuser 1 9 value none\nseen 10 1 0 20\nseen 10 1 0 20\nuser 1 12 value 37\nseen 11 1 0 33\nseen 11 1 0 33\nseen 11 1 0 33\nseen 11 1 0 33\nuser 1 10 value 33\nuser 1 11 value 35\nseen 11 1 0 33\nseen 11 1 0 33\nseen 11 1 0 33\nseen 11 1 0 33\nuser 1 13 value 38\nuser 1 14 value 36\nuser 1 15 value 34\nuser 1 16 value none\n",
     ),
     (
-        "a right Trim that comes late, behind another transaction",
-        "deliver 323\ndeliver 324\nuser 1 tx 1 2 +d=7 -a\nuser 1 tx 1 3 +w=8 -z\ndeliver 325\ndeliver 326\ndeliver 327\ndeliver 328\ndeliver 329\ndeliver 330\ndeliver 331\ndeliver 332\ndeliver 333\ndeliver 334\ndeliver 335\ndeliver 336\ndeliver 337\ndeliver 338\ndeliver 339\ndeliver 340\ndeliver 341\ndeliver 342\ndeliver 343\ndeliver 344\ndeliver 345\ndeliver 346\ndeliver 347\ndeliver 348\ndeliver 349\ndeliver 350\ndeliver 351\ndeliver 352\ndeliver 353\ndeliver 354\ndeliver 355\ndeliver 356\ndeliver 357\ndeliver 358\ndeliver 359\ndeliver 360\ndeliver 361\ndeliver 362\ndeliver 363\ncut m\nsettle\nheal m\nuser 1 tx 1 3 +v=9\nsettle\ndeliver 364\nsettle\ndecide 8\nsettle\ndecide 10\nsettle\ndecide 9\nsettle\ndecide 11\nsettle\nassign 4 1 100\nsettle\nuser 1 get 1 4 a\nuser 1 get 1 4 b\nuser 1 get 1 4 c\nuser 1 get 1 4 d\nuser 1 get 1 4 w\nuser 1 get 1 4 x\nuser 1 get 1 4 y\nuser 1 get 1 4 z\nsettle\n",
+        "a right Trim that comes late, after another transaction of its range",
+        &[
+            Delivers(298, 324),
+            Lines(MEANWHILE),
+            Delivers(325, 363),
+            Lines("user 1 tx 1 3 +v=9\n"),
+            Delivers(365, 372),
+            Delivers(364, 364),
+            Delivers(373, 383),
+            Lines("decide 8\n"),
+            Delivers(384, 403),
+            Lines("decide 10\n"),
+            Delivers(404, 423),
+            Lines("decide 9\n"),
+            Delivers(424, 443),
+            Lines("decide 11\n"),
+            Delivers(444, 476),
+            Lines(ASSIGNED),
+            Delivers(477, 501),
+            Lines(GETS),
+            Delivers(502, 529),
+        ],
         "began 2 2 4\nbegan 3 2 4\nacked 8 24 28\nacked 9 24 28\nacked 11 0 20\ndone 2 2 4\ndone 3 2 4\nuser 1 7 committed 4\nuser 1 8 committed 4\nacked 11 20 28\nacked 5 15 46\nbegan 3 2 5\nacked 9 52 24\ndone 3 2 5\nuser 1 9 committed 5\nsealed 8 52\nsealed 10 48\nsealed 9 76\nsealed 11 48\nacked 12 0 14\nacked 12 14 203\nmerged 2 3 4\nseen 12 1 0 217\ncontent 8 1 52 2\ncontent 9 1 76 3\nseen 2 1 20 28\nseen 10 1 20 28\nseen 2 1 20 28\nseen 11 1 20 28\nloaded 4 3 1 7\nuser 1 10 value none\nseen 10 1 0 20\nseen 10 1 0 20\nuser 1 13 value 37\nuser 1 14 value 38\nseen 11 1 0 20\nseen 11 1 0 20\nuser 1 17 value none\nuser 1 11 value 33\nuser 1 12 value 35\nseen 11 1 0 20\nseen 11 1 0 20\nuser 1 15 value 36\nuser 1 16 value 34\n",
     ),
     (
         "Trims that come twice, and once more when the new range is to be loaded",
-        "deliver 323\ndeliver 323\ndeliver 324\nuser 1 tx 1 2 +d=7 -a\nuser 1 tx 1 3 +w=8 -z\ndeliver 325\ndeliver 326\ndeliver 327\ndeliver 328\ndeliver 329\ndeliver 330\ndeliver 331\ndeliver 332\ndeliver 333\ndeliver 334\ndeliver 335\ndeliver 336\ndeliver 337\ndeliver 338\ndeliver 339\ndeliver 340\ndeliver 341\ndeliver 342\ndeliver 343\ndeliver 344\ndeliver 345\ndeliver 346\ndeliver 347\ndeliver 348\ndeliver 349\ndeliver 350\ndeliver 351\ndeliver 352\ndeliver 353\ndeliver 354\ndeliver 355\ndeliver 356\ndeliver 357\ndeliver 358\ndeliver 359\ndeliver 360\ndeliver 361\ndeliver 362\ndeliver 363\ndeliver 364\ndeliver 365\ndeliver 365\nsettle\ndecide 8\nsettle\ndecide 10\nsettle\ndecide 9\nsettle\ndecide 11\nsettle\ndeliver 323\ndeliver 365\nsettle\nassign 4 1 100\nsettle\nuser 1 get 1 4 a\nuser 1 get 1 4 b\nuser 1 get 1 4 c\nuser 1 get 1 4 d\nuser 1 get 1 4 w\nuser 1 get 1 4 x\nuser 1 get 1 4 y\nuser 1 get 1 4 z\nsettle\n",
+        &[
+            Delivers(298, 323),
+            Delivers(323, 324),
+            Lines(MEANWHILE),
+            Delivers(325, 365),
+            Delivers(365, 377),
+            Lines("decide 8\n"),
+            Delivers(378, 397),
+            Lines("decide 10\n"),
+            Delivers(398, 417),
+            Lines("decide 9\n"),
+            Delivers(418, 437),
+            Lines("decide 11\n"),
+            Delivers(438, 470),
+            Delivers(323, 323),
+            Delivers(365, 365),
+            Delivers(471, 472),
+            Lines(ASSIGNED),
+            Delivers(473, 497),
+            Lines(GETS),
+            Delivers(498, 525),
+        ],
         "began 2 2 4\nbegan 3 2 4\nacked 8 24 28\nacked 9 24 28\nacked 11 0 20\ndone 2 2 4\ndone 3 2 4\nuser 1 7 committed 4\nuser 1 8 committed 4\nacked 11 20 28\nacked 5 15 46\nsealed 8 52\nsealed 10 48\nsealed 9 52\nsealed 11 48\nacked 12 0 14\nacked 12 14 203\nmerged 2 3 4\nseen 12 1 0 217\ncontent 8 1 52 2\ncontent 9 1 52 2\nseen 2 1 20 28\nseen 10 1 20 28\nseen 2 1 20 28\nseen 11 1 20 28\nloaded 4 3 1 6\nuser 1 9 value none\nseen 10 1 0 20\nseen 10 1 0 20\nuser 1 12 value 37\nuser 1 13 value 38\nseen 11 1 0 20\nseen 11 1 0 20\nuser 1 16 value none\nuser 1 10 value 33\nuser 1 11 value 35\nseen 11 1 0 20\nseen 11 1 0 20\nuser 1 14 value 36\nuser 1 15 value 34\n",
     ),
 ];
@@ -74,8 +161,12 @@ fn prints_what_merges_do(rt: HostRuntime) -> Result<(), Fail> {
 
 #[test]
 fn the_new_range_has_what_left_both_logs(rt: HostRuntime) -> Result<(), Fail> {
-    for &(shows, more, want) in TRIMS {
-        assert!(rt; goes_on(rt.alloc(), (BEGUN, TOLD), more, want)?, "{shows}");
+    for &(shows, parts, want) in TRIMS {
+        let more = script_of(rt.alloc(), parts)?;
+        assert!(rt;
+            goes_on(rt.alloc(), (BEGUN, TOLD), more.as_str(), want)?,
+            "{shows}"
+        );
     }
     Ok(())
 }

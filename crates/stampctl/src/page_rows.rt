@@ -155,15 +155,10 @@ fn rows(alloc: Global, notes: &[Note], changes: &[Change]) -> Result<Rows, Fail>
 }
 
 fn are_rows(rows: &[Row], wanted: &[(&[u8], &[u8])]) -> bool {
-    if rows.len() != wanted.len() {
-        return false;
-    }
-    for (row, (key, value)) in rows.iter().zip(wanted) {
-        if row.key.as_slice() != *key || row.value.as_slice() != *value {
-            return false;
-        }
-    }
-    true
+    rows.len() == wanted.len()
+        && rows.iter().zip(wanted).all(|(row, (key, value))| {
+            row.key.as_slice() == *key && row.value.as_slice() == *value
+        })
 }
 
 #[test]

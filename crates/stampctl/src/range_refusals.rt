@@ -1,14 +1,17 @@
-//! Splits and merges that are refused: each by its number, and nothing is sent or observed of it. Another may begin then.
+//! Splits and merges that are refused: each by its number, and each leaves the server as it was. A run with them goes on as one without
+//! them: another split or merge may begin, and all that the ranges do then, they do in both.
 use crate::drills::{
-    Drill, MOST_DELIVERIES, NONE, assign, deliver_some, merge_of, settle_all, started,
+    Drill, MOST_DELIVERIES, NONE, assign, assign_all, change, deliver_some, drilled, merge_of,
+    settle_all, started, transact,
 };
-use crate::drives::Drive;
+use crate::drives::{Drive, asked, restart_of, step, stop_of};
+use crate::same_runs::is_same_run;
 use Step::{Assigns, Checkpoints, Delivers, Ends, Merges, Settles, Splits};
 use bytes::Bytes;
 use model_streams::Event;
 use std::alloc::Global;
 use std::test::Fail;
-use wire::{RangeId, ServerNo};
+use wire::{ActorId, RangeId, ReqNo, ServerNo, TableBody};
 
 /// What happens in a run.
 #[derive(Clone, Copy)]
@@ -207,18 +210,14 @@ fn refusal(drive: &mut Drive, alloc: Global, event: Event) -> Result<Option<u8>,
     }
 }
 
-/// Whether the event is refused with this number, or is not; of one that is refused nothing is sent or observed.
+/// Whether the event is refused with this number, or is not.
 fn answers(
     drive: &mut Drive,
     alloc: Global,
     event: Event,
     wanted: Option<u8>,
 ) -> Result<bool, Fail> {
-    let sent = drive.run.sent().len();
-    let observed = drive.run.observations().len();
-    let number = refusal(drive, alloc, event)?;
-    let is_unchanged = drive.run.sent().len() == sent && drive.run.observations().len() == observed;
-    Ok(number == wanted && is_unchanged == wanted.is_some())
+    Ok(refusal(drive, alloc, event)? == wanted)
 }
 
 fn split_of(range: u64, key: &'static [u8]) -> Event {
@@ -270,8 +269,29 @@ fn takes(drill: &mut Drill, alloc: Global, next: Step) -> Result<bool, Fail> {
     }
 }
 
-fn take_all(drill: &mut Drill, alloc: Global, steps: &[Step]) -> Result<bool, Fail> {
+/// Whether the step is to be refused.
+fn is_refused(next: &Step) -> bool {
+    match next {
+        Step::Splits(_, _, wanted) => wanted.is_some(),
+        Step::Merges(_, _, wanted) => wanted.is_some(),
+        Step::Checkpoints(_, wanted) => wanted.is_some(),
+        _ => false,
+    }
+}
+
+/// Which steps of a case a run takes.
+#[derive(Clone, Copy, PartialEq, Eq)]
+enum Taken {
+    All,
+    /// Those that are to be refused are left out.
+    Others,
+}
+
+fn take_part(drill: &mut Drill, alloc: Global, steps: &[Step], taken: Taken) -> Result<bool, Fail> {
     for next in steps {
+        if taken == Taken::Others && is_refused(next) {
+            continue;
+        }
         if !takes(drill, alloc, *next)? {
             return Ok(false);
         }
@@ -279,21 +299,132 @@ fn take_all(drill: &mut Drill, alloc: Global, steps: &[Step]) -> Result<bool, Fa
     Ok(true)
 }
 
-fn take_parts(drill: &mut Drill, alloc: Global, parts: &[&[Step]]) -> Result<bool, Fail> {
+/// Whether the steps of a case are answered as it says.
+fn take_parts(
+    drill: &mut Drill,
+    alloc: Global,
+    parts: &[&[Step]],
+    taken: Taken,
+) -> Result<bool, Fail> {
     for part in parts {
-        if !take_all(drill, alloc, part)? {
+        if !take_part(drill, alloc, part, taken)? {
             return Ok(false);
         }
     }
     Ok(true)
 }
 
-/// Whether the steps of a case go as it says.
-fn goes(alloc: Global, parts: &[&[Step]]) -> Result<bool, Fail> {
+/// The highest range that a run comes to have.
+const LAST_RANGE: u64 = 6;
+
+/// Each range of a case has one of these.
+const KEYS: [u8; 2] = [b'a', b'z'];
+
+fn get(drive: &mut Drive, alloc: Global, range: u64, key: u8) -> Result<(), Fail> {
+    let body = TableBody::Get {
+        range: RangeId(range),
+        key: Bytes::copy_from_slice(alloc, &[key])?,
+        request: ReqNo::User { user: 1, ticket: 2 },
+    };
+    step(drive, alloc, asked(body))
+}
+
+fn put(drive: &mut Drive, alloc: Global, range: u64, key: u8) -> Result<(), Fail> {
+    let mut changes = Vec::new(alloc);
+    changes.push(change(alloc, key, Some(b'x'))?)?;
+    transact(drive, alloc, RangeId(range), changes)
+}
+
+/// Each key is put and asked for in the range, and the range makes a checkpoint, where it can.
+fn ask_all(drill: &mut Drill, alloc: Global, range: u64) -> Result<(), Fail> {
+    for key in KEYS {
+        put(&mut drill.drive, alloc, range, key)?;
+        get(&mut drill.drive, alloc, range, key)?;
+    }
+    settle_all(drill, alloc, &NONE)?;
+    step(&mut drill.drive, alloc, checkpoint_in(range))?;
+    settle_all(drill, alloc, &NONE)
+}
+
+/// Each range that the map has is loaded.
+fn load_all(drill: &mut Drill, alloc: Global) -> Result<(), Fail> {
+    assign_all(&mut drill.drive, alloc)?;
+    settle_all(drill, alloc, &NONE)
+}
+
+fn start_again(drive: &mut Drive, alloc: Global) -> Result<(), Fail> {
+    let server = ActorId::Server(ServerNo(1));
+    step(drive, alloc, stop_of(&server))?;
+    step(drive, alloc, restart_of(&server))
+}
+
+/// What is under way ends, each range is loaded and asked for all that it does, and the server stops and loads them again. What a
+/// refused event has changed of a range's phase, keys, position, indexes, numbers or jobs shows here.
+fn go_on(drill: &mut Drill, alloc: Global) -> Result<(), Fail> {
+    settle_all(drill, alloc, &NONE)?;
+    for range in 1..=LAST_RANGE {
+        ask_all(drill, alloc, range)?;
+    }
+    load_all(drill, alloc)?;
+    for range in 1..=LAST_RANGE {
+        ask_all(drill, alloc, range)?;
+    }
+    start_again(&mut drill.drive, alloc)?;
+    load_all(drill, alloc)
+}
+
+fn take_all(
+    drill: &mut Drill,
+    alloc: Global,
+    parts: &[&[Step]],
+    taken: Taken,
+) -> Result<bool, Fail> {
+    if !take_parts(drill, alloc, parts, taken)? {
+        return Ok(false);
+    }
+    go_on(drill, alloc)?;
+    Ok(true)
+}
+
+/// The whole run of a case, if its steps are answered as it says.
+fn played(alloc: Global, parts: &[&[Step]], taken: Taken) -> Result<Option<Drive>, Fail> {
     let mut drill = started(alloc)?;
-    let taken = take_parts(&mut drill, alloc, parts);
-    drop(drill);
-    taken
+    match take_all(&mut drill, alloc, parts, taken) {
+        Ok(true) => Ok(Some(drilled(drill, Ok(()))?)),
+        Ok(false) => {
+            drop(drill);
+            Ok(None)
+        }
+        Err(fail) => {
+            drop(drill);
+            Err(fail)
+        }
+    }
+}
+
+fn are_same(alloc: Global, all: Drive, others: Drive) -> Result<bool, Fail> {
+    let same = is_same_run(alloc, &all.run, &others.run);
+    drop(all);
+    drop(others);
+    same
+}
+
+/// Whether the steps of a case are answered as it says, and what follows is the same as without those that are refused.
+fn goes(alloc: Global, parts: &[&[Step]]) -> Result<bool, Fail> {
+    let Some(all) = played(alloc, parts, Taken::All)? else {
+        return Ok(false);
+    };
+    match played(alloc, parts, Taken::Others) {
+        Ok(Some(others)) => are_same(alloc, all, others),
+        Ok(None) => {
+            drop(all);
+            Ok(false)
+        }
+        Err(fail) => {
+            drop(all);
+            Err(fail)
+        }
+    }
 }
 
 #[test]

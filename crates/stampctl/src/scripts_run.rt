@@ -1,6 +1,5 @@
 use crate::printed::{goes_on, joined};
 use script_run::{Failure, script};
-use std::alloc::Global;
 use std::io::{self, ErrorKind, Read, Write};
 use std::test::Fail;
 use wire::Refusal;

@@ -1,5 +1,5 @@
 //! The words of the command line.
-ghost use Rattle.std.specs.Prelude.{◌≡◌, ◌∷◌, [], IfErr, IfOk, drop, false};
+ghost use Rattle.std.specs.Prelude.{◌≡◌, IfErr, IfOk, drop, false};
 ghost use Rattle.clap.specs.Words.{app_of, kind_of, shape_of};
 ghost use Rattle.clap.specs.declared.builder.command.Command.TheViews.{out-Command};
 ghost use Rattle.stampctl_words.specs.CommandLine.{file_shape, program};

@@ -152,15 +152,11 @@ fn is_row(entry: &RangeEntry, row: Row) -> bool {
 
 fn has(map: &Held, rows: &[Row]) -> bool {
     let ranges = map.ranges();
-    if ranges.len() != rows.len() {
-        return false;
-    }
-    for (entry, row) in ranges.iter().zip(rows) {
-        if !is_row(entry, *row) {
-            return false;
-        }
-    }
-    true
+    ranges.len() == rows.len()
+        && ranges
+            .iter()
+            .zip(rows)
+            .all(|(entry, row)| is_row(entry, *row))
 }
 
 fn is_told_to_stop(map: &mut Held, keep: bool) -> bool {

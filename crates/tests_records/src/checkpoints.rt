@@ -1,7 +1,6 @@
 //! What no clause says of checkpoints: that look-ups and combining succeed, over pages that were written by hand.
 ghost use Rattle.std.specs.Prelude.{IfOk, OnOk};
 ghost use Rattle.std.specs.List.{AllByRecursion};
-ghost use Rattle.memtable.specs.Limits.{IsKey};
 ghost use Rattle.checkpoint_format.specs.Index.{IsIndex};
 ghost use Rattle.memtable.specs.Entries.{IsFit};
 
@@ -132,7 +131,7 @@ fn answer(
 #[test]
 fn a_newer_index_hides_an_older_one(rt: HostRuntime) -> Result<(), Fail> {
     let alloc = rt.alloc();
-    assert!(rt; answer(alloc, true, None, b"a")? == '-');
+    assert!(rt; answer(alloc, true, None, b"a")? == '.');
     assert!(rt; answer(alloc, true, None, b"b")? == '@');
     assert!(rt; answer(alloc, true, None, b"c")? == '=');
     assert!(rt; answer(alloc, true, None, b"0")? == '.');
@@ -143,7 +142,7 @@ fn a_newer_index_hides_an_older_one(rt: HostRuntime) -> Result<(), Fail> {
 #[test]
 fn a_page_is_wanted_where_it_can_have_the_key(rt: HostRuntime) -> Result<(), Fail> {
     let alloc = rt.alloc();
-    assert!(rt; answer(alloc, false, None, b"a")? == '-');
+    assert!(rt; answer(alloc, false, None, b"a")? == '.');
     assert!(rt; answer(alloc, false, None, b"c")? == '?');
     assert!(rt; answer(alloc, false, None, b"0")? == '.');
     assert!(rt; answer(alloc, false, Some(b"c"), b"c")? == '.');

@@ -119,6 +119,7 @@ fn is_spelled_so_by_hand_and_damaged_else(rt: HostRuntime) {
 /// What a row keeps of the first change, if the group stands at offset 100 of extent 7.
 fn first_place(alloc: Global, group: &Group) -> Result<Option<Place>, Fail> {
     let read = decode(alloc, group)?;
+    // Its clause says that the group has at most 4,194,304 bytes.
     let _size = group.size();
     let kept = cells(alloc, &read, ExtentId(7), 100);
     drop(read);

@@ -39,6 +39,7 @@ fn abc_de(alloc: Global) -> Result<Record, Fail>
     ensures { IfOk result (Fits V1) }
 {
     let group = group_of(alloc, &[b"abc", b"de"])?;
+    // Its clause says that the group has at most 4,194,304 bytes.
     let _size = group.size();
     Ok(Record::Append {
         extent: 1,

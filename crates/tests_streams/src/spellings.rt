@@ -132,6 +132,7 @@ fn a_make_is_written_so(rt: HostRuntime) {
 
 fn append_is_spelled(alloc: Global) -> Result<bool, GroupFault> {
     let group = group_of(alloc, &[b"abc", b"de"])?;
+    // Its clause says that the group has at most 4,194,304 bytes.
     let _size = group.size();
     let append = Record::Append {
         extent: 1,

@@ -11,8 +11,8 @@ use memtable::Place;
 use model_partition::{Pause, Progress, RangeContent, ServerContext, Stage};
 use packets::{Comes, are_sent, comes_to};
 use range_checkpoint::{
-    CheckpointStart, begin, checkpoint_fault, give_up, page_reply, record_reply, rows_reply,
-    trim_awaits, trim_reply,
+    CheckpointStart, begin, checkpoint_fault, give_up, install, is_recorded, page_reply,
+    record_reply, rows_reply, trim_awaits, trim_reply,
 };
 use range_reads::Lookups;
 use std::alloc::{AllocError, Global};
@@ -462,6 +462,10 @@ fn reply(
         Part::Metadata => {
             if content.stage != Stage::Serving {
                 return Ok(Progress::Rests);
+            }
+            if is_recorded(content, &packet.body) {
+                let trim = install(content, alloc, context, packet)?;
+                return Ok(Progress::Goes(trim));
             }
             record_reply(content, alloc, context, packet)
         }

@@ -168,6 +168,7 @@ fn answers(alloc: Global, queue: &Queue, count: usize, last: u64) -> Result<bool
 }
 
 fn keeps_at(alloc: Global, queue: &Queue, offset: u32) -> Result<bool, Fail> {
+    // Its clause says how long the group that is out can be.
     let _size = queue.out_size();
     let kept = queue.changes(alloc, ExtentId(7), 100)?;
     match kept.as_slice() {
@@ -223,6 +224,7 @@ fn changes_are_refused_by_the_first_test(rt: HostRuntime) -> Result<(), Fail> {
 fn formed(alloc: Global, batch: u16) -> Result<(usize, u64), Fail> {
     let mut queue = Queue::new(alloc);
     for ticket in 1..4 {
+        // That it was pushed shows in how many transactions the group has.
         let _is_pushed = pushes(alloc, &mut queue, ticket)?;
     }
     let mut encodings = 0;

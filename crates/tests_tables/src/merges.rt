@@ -190,6 +190,17 @@ const CASES: &[Case<Step>] = &[
         ],
     ),
     (
+        "a left range of an old generation goes where the map begins no merge of it, and the right one is served on",
+        &[
+            SERVED,
+            &[
+                Begins(None),
+                Leaves(3, 4, Refused(Refusal::Stale), true, false),
+                Transacts(RIGHT, None),
+            ],
+        ],
+    ),
+    (
         "transactions that wait are appended first, at either range",
         &[
             SERVED,

@@ -340,7 +340,7 @@ fn checkpointed(state: &mut RangeState, alloc: Global) -> Result<Option<Refusal>
     if let Some(refusal) = state.checkpoint_fault() {
         return Ok(Some(refusal));
     }
-    let taken = state.checkpoint(alloc, &context(9, 1), false)?;
+    let taken = state.freeze(alloc, &context(9, 1), false)?;
     drop(taken);
     Ok(None)
 }

@@ -1,4 +1,5 @@
 -- What each event does to a cluster, beside what it does to the model's.
+use Rattle.std.specs.declared.alloc.AllocError.{AllocError}
 use Rattle.std.proofs.Common.{◌≡◌, ◌<◌, ℕ, zero, suc, length, arith, Bool, true, false, nat_lt, List, [], ◌∷◌, ◌++◌, Option, Some, None, Result, Ok, Err, OnOk, IfSome, refl, sym, ap, ◌∙◌, subst, slice_get, map, append-nil, if◌then◌else◌}
 use Rattle.std.proofs.lemmas.Option.{same_Some}
 use Rattle.block_types.specs.declared.record.Nodes.{Nodes}
@@ -18,11 +19,10 @@ use Rattle.world_servers.specs.Servers.{ServersSeen, all_shown}
 use Rattle.world_streams.specs.StreamLayer.{StreamLayerState, StreamLayerMirrors}
 use Rattle.world_streams.specs.ServersStep.{AfterMap, AfterServers, with_told_by_map}
 use Rattle.world_streams.proofs.ServerOutput.{map_mirrors, told_mirrors}
-use Rattle.world_streams.specs.declared.fault.WorldFault.{WorldFault}
 use Rattle.world.specs.Cluster.{ClusterState, ClusterMirrors, ClusterSimulates, IsBelow, addressee_of}
 
 -- where a call succeeds, what follows from what it says
-pub if_ok : {A P Q : Type 0} (r : Result A WorldFault) → (P → Q) → OnOk r P → OnOk r Q
+pub if_ok : {A P Q : Type 0} (r : Result A AllocError) → (P → Q) → OnOk r P → OnOk r Q
 if_ok (Ok x) f h = f h
 if_ok (Err x) f h = tt
 

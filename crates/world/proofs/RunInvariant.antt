@@ -1,4 +1,5 @@
 -- A run stays a run; what it shows agrees and is kept, and where no two ranges are merged it is honest.
+use Rattle.std.specs.declared.alloc.AllocError.{AllocError}
 use Rattle.std.proofs.Common.{◌≡◌, ◌<◌, ◌+◌, ℕ, suc, List, [], ◌∷◌, ◌++◌, Result, Ok, Err, OnOk, OnErr, refl, sym, ap, ◌∙◌, subst, take, length, slice_index_or, arith}
 use Rattle.std.proofs.Math.Seq.{take-suc}
 use Rattle.model_streams.specs.declared.event.Event.{Event}
@@ -7,7 +8,6 @@ use Rattle.model_partition.specs.Cluster.{AreUnmerged, Cluster, cluster_after, c
 use Rattle.model_partition.specs.Honest.{Honest}
 use Rattle.laws_servers.proofs.EventsAsMoves.{led_agrees as all_agree, led_keeps as all_kept}
 use Rattle.laws_clusters.proofs.Theorem.{led_honest as all_honest}
-use Rattle.world_streams.specs.declared.fault.WorldFault.{WorldFault}
 use Rattle.world.specs.Cluster.{ClusterState, ClusterMirrors, ClusterSimulates, ReachedBy, IsRun, IsUnmergedRun}
 
 -- ---- events
@@ -55,7 +55,7 @@ begins nodes servers target batch x m = record {
   led = m;
 }
 
-pub goes_on : {A : Type 0} (old new : ClusterState) (event : Event) (result : Result A WorldFault) → IsRun old → OnOk result (ClusterSimulates old new event) → OnErr result (new ≡ old) → IsRun new
+pub goes_on : {A : Type 0} (old new : ClusterState) (event : Event) (result : Result A AllocError) → IsRun old → OnOk result (ClusterSimulates old new event) → OnErr result (new ≡ old) → IsRun new
 goes_on old new event (Ok x) h ok err = record {
   nodes = h.nodes;
   servers = h.servers;

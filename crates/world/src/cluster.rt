@@ -1,5 +1,5 @@
 //! A cluster: the stream layer, the servers above it, the map, and the clock of leases.
-ghost use Rattle.std.specs.Prelude.{◌≡◌, [], None, Some, IfOk, IfSome, OnOk, OnErr, option_map, slice_get};
+ghost use Rattle.std.specs.Prelude.{◌≡◌, None, Some, IfOk, IfSome, OnOk, OnErr, option_map, slice_get};
 ghost use Rattle.model_streams.specs.declared.event.Event.TheVariants as events;
 ghost use Rattle.model_streams.specs.Maps.{entry_at};
 ghost use Rattle.model_partition.specs.Servers.{checkpoint_refusal_at, give_up_refusal, merge_refusal_at, split_refusal_at};
@@ -8,8 +8,7 @@ ghost use Rattle.world_manager.specs.Seen.{decision_refusal};
 ghost use Rattle.world_nodes.specs.Seen.{seen_of};
 ghost use Rattle.world_streams.specs.Nodes.{running_at};
 ghost use Rattle.wire.specs.declared.actor.ActorId.TheVariants as actors;
-ghost use Rattle.world_map.specs.Seen.{MapSimulates, assign_refusal, renew_refusal};
-ghost use Rattle.model_partition.specs.Cluster.{map_starts};
+ghost use Rattle.world_map.specs.Seen.{assign_refusal, renew_refusal};
 ghost use Rattle.world.specs.Cluster.{ClusterSimulates, ClusterMirrors, IsBelow, addressee_of, refusal_of};
 
 use block_types::Nodes;
@@ -44,39 +43,17 @@ impl Model for Cluster {
     ghost invariant = { λ c. c.map.moment ≡ c.servers.moment };
 }
 
-/// Brings the map back, with what is on its disk. An error is out of memory (22), and nothing has changed.
-fn restart_map(map: &mut MapActor, alloc: Global) -> Result<(), WorldFault>
-    ensures ok { OnOk result (MapSimulates map.old map.new map_starts [] []) }
-    ensures moment { map.new.moment ≡ map.old.moment }
-    ensures err { OnErr result (map.new ≡ map.old) }
-{
-    match map.restart(alloc) {
-        Ok(()) => Ok(()),
-        Err(_full) => Err(WorldFault::Memory),
-    }
-}
-
 impl Cluster {
     /// The actors of this setup, with nothing on their disks, and nothing sent or observed. An error is out of memory
     /// (22).
     pub(crate) fn start(alloc: Global, setup: &Setup) -> Result<Cluster, WorldFault>
         ensures { IfOk result (λ run. ClusterMirrors run (first_cluster setup.now.nodes setup.now.servers setup.now.target setup.now.batch)) }
     {
-        let stream_layer = match StreamLayer::start(alloc, setup) {
-            Ok(stream_layer) => stream_layer,
-            Err(fault) => return Err(fault),
-        };
-        let Ok(map) = MapActor::start(alloc) else {
-            return Err(WorldFault::Memory);
-        };
-        match Servers::start(alloc, setup.servers, setup.batch) {
-            Ok(servers) => Ok(Cluster {
-                stream_layer,
-                servers,
-                map,
-            }),
-            Err(_full) => Err(WorldFault::Memory),
-        }
+        Ok(Cluster {
+            stream_layer: StreamLayer::start(alloc, setup)?,
+            servers: Servers::start(alloc, setup.servers, setup.batch)?,
+            map: MapActor::start(alloc)?,
+        })
     }
 
     fn submit(
@@ -135,14 +112,14 @@ impl Cluster {
         ensures err { OnErr result (self.new ≡ self.old) }
     {
         match to {
-            ActorId::Server(server) => match self.give(alloc, server, number) {
-                Ok(()) => Ok(None),
-                Err(fault) => Err(fault),
-            },
-            ActorId::Map => match self.route(alloc, number) {
-                Ok(()) => Ok(None),
-                Err(fault) => Err(fault),
-            },
+            ActorId::Server(server) => {
+                self.give(alloc, server, number)?;
+                Ok(None)
+            }
+            ActorId::Map => {
+                self.route(alloc, number)?;
+                Ok(None)
+            }
             ActorId::Node(_) => self.pass_on(alloc, number),
             ActorId::Manager => self.pass_on(alloc, number),
             ActorId::User(_) => self.pass_on(alloc, number),
@@ -193,7 +170,7 @@ impl Cluster {
             }
             ActorId::Node(_) => self.stream_layer.restart(alloc, actor),
             ActorId::Manager => self.stream_layer.restart(alloc, actor),
-            ActorId::Map => restart_map(&mut self.map, alloc),
+            ActorId::Map => self.map.restart(alloc),
             ActorId::User(_) => Ok(()),
         }
     }
@@ -322,10 +299,10 @@ impl Cluster {
                 self.stop(*actor, *call, *keep);
                 Ok(None)
             }
-            Event::Restart { actor } => match self.restart(alloc, *actor) {
-                Ok(()) => Ok(None),
-                Err(fault) => Err(fault),
-            },
+            Event::Restart { actor } => {
+                self.restart(alloc, *actor)?;
+                Ok(None)
+            }
             Event::Decide { extent } => self.decide(alloc, *extent),
             Event::GiveUp {
                 server,

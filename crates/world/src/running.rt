@@ -14,7 +14,7 @@ use enode::Node;
 use model_streams::Event;
 use std::alloc::Global;
 use std::marker::Model;
-use wire::{Note, Packet};
+use wire::{Note, Packet, Refusal};
 use world_streams::{Setup, WorldFault};
 
 /// A cluster that events made. At each moment it is what the model makes of some list of events, from the start of some
@@ -47,30 +47,35 @@ impl Run {
     pub fn start(alloc: Global, setup: &Setup) -> Result<Run, WorldFault>
         ensures mirrors { IfOk result (λ run. ClusterMirrors run (first_cluster setup.now.nodes setup.now.servers setup.now.target setup.now.batch)) }
     {
-        match Cluster::start(alloc, setup) {
-            Ok(cluster) => Ok(Run { cluster }),
-            Err(fault) => Err(fault),
-        }
+        Ok(Run {
+            cluster: Cluster::start(alloc, setup)?,
+        })
     }
 
-    /// One event more. It answers the number of the refusal where the event is refused: a decision, where there is no such
-    /// extent (1) or no place has answered with its length (10); giving up and a renewal, where the server does not hold the
-    /// range (30); a checkpoint, where the server does not hold the range (30), the range is not served yet (38) or is paused (34),
-    /// or a checkpoint, a split or a merge of it is under way (35); a split for the same (30, 38, 34, 35), and where the key does
-    /// not split the keys of the range (39); a merge for the same of either range (30, 38, 34, 35), where the left one does not end
-    /// where the right one begins (40), and where they have too many indexes together (37); an assignment, of an unknown range (30)
-    /// or while another server holds it (31). Nothing has changed then. An error is out of memory (22), and nothing has changed
-    /// then either.
+    /// One event more. It answers why the event is refused: a decision, where there is no such extent (1) or no place has answered
+    /// with its length (10); giving up and a renewal, where the server does not hold the range (30); a checkpoint, where the server
+    /// does not hold the range (30), the range is not served yet (38) or is paused (34), or a checkpoint, a split or a merge of it
+    /// is under way (35); a split for the same (30, 38, 34, 35), and where the key does not split the keys of the range (39); a
+    /// merge for the same of either range (30, 38, 34, 35), where the left one does not end where the right one begins (40), and
+    /// where they have too many indexes together (37); an assignment, of an unknown range (30) or while another server holds it
+    /// (31). Nothing has changed then. An error is out of memory (22), and nothing has changed then either.
+    pub fn advance(&mut self, alloc: Global, event: &Event) -> Result<Option<Refusal>, WorldFault>
+        ensures ok { OnOk result (ClusterSimulates self.old self.new event.now) }
+        ensures err { OnErr result (self.new ≡ self.old) }
+        ensures refusal { IfOk result (λ refusal. refusal ≡ refusal_of self.old event.now) }
+    {
+        self.cluster.step(alloc, event)
+    }
+
+    /// One event more, as `advance` has it. It answers the number of the refusal where the event is refused. An error is out of
+    /// memory (22), and nothing has changed then.
     pub fn step(&mut self, alloc: Global, event: &Event) -> Result<Option<u8>, WorldFault>
         ensures ok { OnOk result (ClusterSimulates self.old self.new event.now) }
         ensures err { OnErr result (self.new ≡ self.old) }
         ensures refusal { IfOk result (λ number. number ≡ option_map number_of (refusal_of self.old event.now)) }
     {
-        match self.cluster.step(alloc, event) {
-            Ok(Some(refusal)) => Ok(Some(refusal.number())),
-            Ok(None) => Ok(None),
-            Err(fault) => Err(fault),
-        }
+        let refusal = self.advance(alloc, event)?;
+        Ok(refusal.map(|refusal| refusal.number()))
     }
 
     /// All packets that were sent, in order: their places, from 0, are their numbers.

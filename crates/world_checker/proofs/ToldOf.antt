@@ -1,10 +1,10 @@
 -- One observation more that tells of an extent.
-use Rattle.std.proofs.Common.{◌≡◌, ◌⊎◌, ℕ, ◌+◌, ◌<◌, ◌≤◌, Bool, true, List, length, get_or, Option, Some, None, Result, Ok, Err, refl, sym, ◌∙◌, inl, inr, arith, subst, ap}
+use Rattle.std.proofs.Common.{◌≡◌, ℕ, ◌+◌, ◌<◌, ◌≤◌, Bool, true, List, length, get_or, Option, Some, None, Result, Ok, Err, refl, sym, ◌∙◌, inl, inr, arith, subst, ap}
 use Rattle.std.specs.BTreeMap.{get}
 use Rattle.std.specs.Ordering.{nat_cmp}
 use Rattle.std.specs.Result.{IfOk}
 use Rattle.wire.specs.declared.note.Note.{Note}
-use Rattle.wire.specs.declared.note.Note.TheVariants.{Acked, SealedAt, Content, Seen}
+use Rattle.wire.specs.declared.note.Note.TheVariants.{Acked, SealedAt}
 use Rattle.replica.specs.Groups.{Group, size}
 use Rattle.model_streams.specs.Pairs.{Compatible}
 use Rattle.world_checker.specs.declared.told.Told.{Told}

@@ -1,5 +1,5 @@
 //! Where the groups that an observation shows begin, so that an acknowledged one is found among them by its offset.
-ghost use Rattle.std.specs.Prelude.{◌≡◌, ℕ, ◌<◌, ◌≤◌, [], List, Vec, length, slice_index, slice_index_or, true, Some, IfOk};
+ghost use Rattle.std.specs.Prelude.{◌≡◌, ℕ, ◌<◌, ◌≤◌, [], Vec, length, slice_index_or, true, Some, IfOk};
 ghost use Rattle.std.specs.Bool.{Decides};
 ghost use Rattle.std.specs.declared.alloc.Global.{Global};
 ghost use Rattle.model_streams.specs.Honest.{Stands};

@@ -84,34 +84,32 @@ pub fn has_length(groups: &[Group], wanted: u32) -> bool
     rest == 0
 }
 
+fn is_same_block(block: &Block, other: &Block) -> bool
+    ensures { Decides result (block.now ≡ other.now) }
+{
+    block.as_slice() == other.as_slice()
+}
+
 /// Whether two groups have the same blocks.
 pub fn is_same_group(group: &[Block], other: &[Block]) -> bool
     ensures { Decides result (group.now ≡ other.now) }
 {
-    if group.len() != other.len() {
-        return false;
-    }
-    for (i, block) in group.iter().enumerate() {
-        if block.as_slice() != other[i].as_slice() {
-            return false;
-        }
-    }
-    true
+    group.len() == other.len()
+        && group
+            .iter()
+            .zip(other)
+            .all(|(block, of_other)| is_same_block(block, of_other))
 }
 
 /// Whether two lists have the same groups.
 pub fn is_same_groups(groups: &[Group], others: &[Group]) -> bool
     ensures { Decides result (groups.now ≡ others.now) }
 {
-    if groups.len() != others.len() {
-        return false;
-    }
-    for (i, group) in groups.iter().enumerate() {
-        if !is_same_group(group.blocks(), others[i].blocks()) {
-            return false;
-        }
-    }
-    true
+    groups.len() == others.len()
+        && groups.iter().zip(others).all(|(group, of_others)| is_same_group(
+            group.blocks(),
+            of_others.blocks(),
+        ))
 }
 
 /// Whether the group stands among the groups where this many bytes stand before it.

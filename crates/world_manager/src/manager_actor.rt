@@ -1,5 +1,5 @@
 //! The manager on a disk in memory.
-ghost use Rattle.std.specs.Prelude.{◌≡◌, ◌≤◌, ◌&&◌, [], None, Some, false, IfOk, OnOk, OnErr};
+ghost use Rattle.std.specs.Prelude.{◌≡◌, ◌≤◌, [], None, Some, IfOk, OnOk, OnErr};
 ghost use Rattle.block_types.specs.Limits.{IsTarget};
 ghost use Rattle.wire.specs.declared.actor.ActorId.TheVariants as actors;
 ghost use Rattle.wire.specs.declared.note.Note.TheVariants as notes;
@@ -7,7 +7,7 @@ ghost use Rattle.model_streams.specs.StreamSystem.{manager_decides, manager_take
 ghost use Rattle.manager.specs.Performs.{sealing_notes};
 ghost use Rattle.world_steps.specs.ActorStep.{IsFew, nothing};
 ghost use Rattle.world_manager.specs.Seen.{ManagerSimulates, decision_refusal, new_manager, seen_of};
-ghost use Rattle.world_stops.specs.LastRecord.{shown_if, stands_told};
+ghost use Rattle.world_stops.specs.LastRecord.{shown_if};
 
 use disk::{DiskFault, MemDisk};
 use manager::{Manager, ManagerFault};

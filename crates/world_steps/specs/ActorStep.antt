@@ -1,5 +1,5 @@
 -- What one step of an actor comes to.
-use Rattle.std.specs.Prelude.{◌≡◌, ◌≤◌, List, [], length, Option, Some, None}
+use Rattle.std.specs.Prelude.{◌≤◌, List, [], length, Option, Some, None}
 use Rattle.wire.specs.declared.note.Note.{Note}
 use Rattle.wire.specs.declared.packet.Packet.{Packet}
 use Rattle.wire.specs.declared.packet.Step.{Step}
@@ -32,10 +32,6 @@ stream_step step = record { packets = step.packets; notes = step.notes; tables =
 -- the step of a server
 abbrev pub table_step : List Packet → List TableNote → ActorStep
 table_step packets tables = record { packets = packets; notes = []; tables = tables; refusal = None }
-
--- what the stream layer has of it
-abbrev pub step_of : ActorStep → Step
-step_of s = record { packets = s.packets; notes = s.notes }
 
 -- no more than a run makes room for before it hands a packet out
 abbrev pub IsFew : ActorStep → Type 0

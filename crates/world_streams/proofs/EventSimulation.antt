@@ -1,6 +1,7 @@
 -- What each event does to the stream layer, beside what it does to the model's.
 use Rattle.std.proofs.Common.{◌≡◌, ◌≤◌, ◌<◌, ℕ, Bool, true, false, List, [], ◌∷◌, ◌++◌, Option, Some, None, Result, Ok, Err, IfOk, OnOk, refl, sym, ap, ◌∙◌, subst, take, ◌+◌, slice_get, slice_index_or, length, zero, suc, if◌then◌else◌, arith, append-nil}
 use Rattle.std.proofs.Math.Seq.{take-suc}
+use Rattle.std.specs.declared.alloc.AllocError.{AllocError}
 use Rattle.std.proofs.lemmas.Option.{same_Some}
 use Rattle.wire.specs.declared.actor.ActorId.{ActorId}
 use Rattle.wire.specs.declared.actor.ActorId.TheVariants.{Node, Manager, Map, Server, User}
@@ -14,7 +15,6 @@ use Rattle.model_streams.specs.Outcome.{packet}
 use Rattle.model_streams.specs.StreamSystem.Move.{Asks}
 use Rattle.model_streams.specs.StreamSystem.{StreamSystem, ActorCell, happens, moved, is_request, is_server_call, sent_more, delivered, delivered_if, node_takes, manager_takes, manager_decides, restart, run, start}
 use Rattle.model_streams.proofs.Tests.{if_elim}
-use Rattle.world_streams.specs.declared.fault.WorldFault.{WorldFault}
 use Rattle.block_types.specs.Limits.{IsTarget}
 use Rattle.world_stops.specs.Plan.{plan_of}
 use Rattle.world_steps.specs.ActorStep.{ActorStep, nothing}
@@ -186,7 +186,7 @@ pub manager_goes : (r : StreamLayerState) (y : ManagerSeen) (goes : StreamSystem
     (w : StreamSystem) → StreamLayerMirrors r w → StreamLayerMirrors (record r { manager = y }) (goes w)
 manager_goes r y goes h w m = stepped r (record r { manager = y }) w (goes w) nothing m (moved_by_manager r.nodes y w (goes w) nothing (h w m.manager) m.nodes) (same_post r).0 (same_post r).1
 
-pub manager_came : (r : StreamLayerState) (y : ManagerSeen) (actor : ActorId) (x : Result Unit WorldFault) → actor ≡ Manager → OnOk x (ManagerSimulates r.manager y (λ w. restart w Manager) nothing) →
+pub manager_came : (r : StreamLayerState) (y : ManagerSeen) (actor : ActorId) (x : Result Unit AllocError) → actor ≡ Manager → OnOk x (ManagerSimulates r.manager y (λ w. restart w Manager) nothing) →
     OnOk x ((w : StreamSystem) → StreamLayerMirrors r w → StreamLayerMirrors (record r { manager = y }) (restart w actor))
 manager_came r y actor (Ok x) is h = manager_goes r y (λ w. restart w actor) (subst (λ (a : ActorId). ManagerSimulates r.manager y (λ w. restart w a) nothing) (sym is) h)
 manager_came r y actor (Err x) is h = tt
@@ -220,7 +220,7 @@ ran_next r events i event w is l m =
 
 -- ---- in the words of the answers
 
-pub node_moved : (xs ys : List NodeSeen) (d : ManagerSeen) (n : ℕ) (p : Packet) (r : Result ActorStep WorldFault) → p.to ≡ Node n →
+pub node_moved : (xs ys : List NodeSeen) (d : ManagerSeen) (n : ℕ) (p : Packet) (r : Result ActorStep AllocError) → p.to ≡ Node n →
     IfOk r (λ s. (w : StreamSystem) → NodesMirror xs w → NodesStep ys w (node_takes w n p) s) →
     IfOk r (λ s. (w : StreamSystem) → NodesMirror xs w → ManagerMirrors d w → ActorsStep ys d w (delivered w p p.to) s)
 node_moved xs ys d n p (Ok s) to h = moved_node xs ys d n p s to h

@@ -6,10 +6,9 @@ ghost use Rattle.world_steps.specs.ActorStep.{IsFew, nothing};
 ghost use Rattle.world_nodes.specs.Seen.{seen_of};
 ghost use Rattle.world_streams.specs.Nodes.{NodesMirror, NodesStep, first_nodes, running_at};
 
-use crate::fault::WorldFault;
 use disk::MemDisk;
 use enode::Node;
-use std::alloc::Global;
+use std::alloc::{AllocError, Global};
 use std::marker::Model;
 use wire::Packet;
 use world_nodes::NodeActor;
@@ -36,16 +35,13 @@ fn give_at(
     at: usize,
     alloc: Global,
     packet: &Packet,
-) -> Result<ActorStep, WorldFault>
+) -> Result<ActorStep, AllocError>
     requires { at < length nodes.old.items }
     ensures ok { IfOk result (λ step. (w : StreamSystem) → NodesMirror nodes.old.items w → NodesStep nodes.new.items w (node_takes w (suc at) packet.now) step) }
     ensures err { OnErr result (nodes.new.items ≡ nodes.old.items) }
     ensures few { IfOk result IsFew }
 {
-    match nodes[at].give(alloc, packet) {
-        Ok(step) => Ok(step),
-        Err(_full) => Err(WorldFault::Memory),
-    }
+    nodes[at].give(alloc, packet)
 }
 
 fn stop_at(nodes: &mut Vec<NodeActor>, at: usize, call: u64, keep: bool)
@@ -55,20 +51,17 @@ fn stop_at(nodes: &mut Vec<NodeActor>, at: usize, call: u64, keep: bool)
     nodes[at].stop(call, keep)
 }
 
-fn restart_at(nodes: &mut Vec<NodeActor>, at: usize, alloc: Global) -> Result<(), WorldFault>
+fn restart_at(nodes: &mut Vec<NodeActor>, at: usize, alloc: Global) -> Result<(), AllocError>
     requires { at < length nodes.old.items }
     ensures ok { OnOk result ((w : StreamSystem) → NodesMirror nodes.old.items w → NodesStep nodes.new.items w (restart w (actors.Node (suc at))) nothing) }
     ensures err { OnErr result (nodes.new.items ≡ nodes.old.items) }
 {
-    match nodes[at].restart(alloc) {
-        Ok(()) => Ok(()),
-        Err(_full) => Err(WorldFault::Memory),
-    }
+    nodes[at].restart(alloc)
 }
 
 impl NodeList {
     /// So many nodes, with nothing on their disks.
-    pub(crate) fn start(alloc: Global, count: u8) -> Result<NodeList, WorldFault>
+    pub(crate) fn start(alloc: Global, count: u8) -> Result<NodeList, AllocError>
         ensures { IfOk result (λ nodes. nodes ≡ first_nodes count) }
     {
         let mut items = Vec::with_capacity(alloc, usize::from(count))?;
@@ -84,7 +77,7 @@ impl NodeList {
         alloc: Global,
         number: u8,
         packet: &Packet,
-    ) -> Result<ActorStep, WorldFault>
+    ) -> Result<ActorStep, AllocError>
         ensures ok { IfOk result (λ step. (w : StreamSystem) → NodesMirror self.old w → NodesStep self.new w (node_takes w number packet.now) step) }
         ensures err { OnErr result (self.new ≡ self.old) }
         ensures few { IfOk result IsFew }
@@ -114,7 +107,7 @@ impl NodeList {
     }
 
     /// Brings the node of a number back. Nothing comes of it where there is none, or where it runs.
-    pub(crate) fn restart(&mut self, alloc: Global, number: u8) -> Result<(), WorldFault>
+    pub(crate) fn restart(&mut self, alloc: Global, number: u8) -> Result<(), AllocError>
         ensures ok { OnOk result ((w : StreamSystem) → NodesMirror self.old w → NodesStep self.new w (restart w (actors.Node number)) nothing) }
         ensures err { OnErr result (self.new ≡ self.old) }
     {

@@ -10,7 +10,7 @@ ghost use Rattle.model_streams.specs.Outcome.{packet};
 ghost use Rattle.model_partition.specs.Servers.{checkpoint_refusal_at, give_up_refusal, merge_refusal_at, server_checkpoints, server_gives_up, server_merges, server_splits, server_takes, split_refusal_at};
 ghost use Rattle.world_steps.specs.ActorStep.{IsFew, nothing};
 ghost use Rattle.world_nodes.specs.Seen.{seen_of};
-ghost use Rattle.world_manager.specs.Seen.{ManagerMirrors, ManagerSimulates, decision_refusal};
+ghost use Rattle.world_manager.specs.Seen.{ManagerMirrors, decision_refusal};
 ghost use Rattle.world_streams.specs.Nodes.{NodesMirror, running_at};
 ghost use Rattle.world_streams.specs.StreamLayer.{StreamLayerMirrors, ActorsStep, refusal_of};
 ghost use Rattle.world_streams.specs.ServersStep.{AfterMap, AfterServers};
@@ -81,24 +81,10 @@ fn take(
 {
     match packet.to {
         ActorId::Node(number) => nodes.give(alloc, number, packet),
-        ActorId::Manager => match manager.give(alloc, packet) {
-            Ok(step) => Ok(step),
-            Err(_full) => Err(WorldFault::Memory),
-        },
+        ActorId::Manager => manager.give(alloc, packet),
         ActorId::Map => Ok(ActorStep::silent(alloc)),
         ActorId::Server(_) => Ok(ActorStep::silent(alloc)),
         ActorId::User(_) => Ok(ActorStep::silent(alloc)),
-    }
-}
-
-/// Brings the manager back, with what is on its disk. An error is out of memory (22), and nothing has changed.
-fn restart_manager(manager: &mut ManagerActor, alloc: Global) -> Result<(), WorldFault>
-    ensures ok { OnOk result (ManagerSimulates manager.old manager.new (λ w. restart w actors.Manager) nothing) }
-    ensures err { OnErr result (manager.new ≡ manager.old) }
-{
-    match manager.restart(alloc) {
-        Ok(()) => Ok(()),
-        Err(_full) => Err(WorldFault::Memory),
     }
 }
 
@@ -108,19 +94,12 @@ impl StreamLayer {
     pub fn start(alloc: Global, setup: &Setup) -> Result<StreamLayer, WorldFault>
         ensures mirrors { IfOk result (λ run. StreamLayerMirrors run (start setup.now.nodes setup.now.target)) }
     {
-        let nodes = match NodeList::start(alloc, setup.nodes) {
-            Ok(nodes) => nodes,
-            Err(fault) => return Err(fault),
-        };
-        match ManagerActor::start(alloc, setup.nodes, setup.target) {
-            Ok(manager) => Ok(StreamLayer {
-                nodes,
-                manager,
-                post: Vec::new(alloc),
-                notes: Observations::new(alloc),
-            }),
-            Err(_full) => Err(WorldFault::Memory),
-        }
+        Ok(StreamLayer {
+            nodes: NodeList::start(alloc, setup.nodes)?,
+            manager: ManagerActor::start(alloc, setup.nodes, setup.target)?,
+            post: Vec::new(alloc),
+            notes: Observations::new(alloc),
+        })
     }
 
     /// A user asks something. Nothing comes of a body that users may not ask. An error is out of memory (22), and nothing has
@@ -136,13 +115,12 @@ impl StreamLayer {
         ensures ok { OnOk result ((w : StreamSystem) → StreamLayerMirrors self.old w → StreamLayerMirrors self.new (happens w (events.Submit user to body.now))) }
         ensures err { OnErr result (self.new ≡ self.old) }
     {
-        match request(alloc, body) {
-            Err(_full) => Err(WorldFault::Memory),
-            Ok(None) => Ok(None),
-            Ok(Some(body)) => match self.send(ActorId::User(user), to, body) {
-                Ok(()) => Ok(None),
-                Err(fault) => Err(fault),
-            },
+        match request(alloc, body)? {
+            None => Ok(None),
+            Some(body) => {
+                self.send(ActorId::User(user), to, body)?;
+                Ok(None)
+            }
         }
     }
 
@@ -156,20 +134,15 @@ impl StreamLayer {
         if !is_call(&body) {
             return Ok(());
         }
-        match self.send(ActorId::Server(server), to, body) {
-            Ok(()) => Ok(()),
-            Err(fault) => Err(fault),
-        }
+        self.send(ActorId::Server(server), to, body)
     }
 
     fn send(&mut self, from: ActorId, to: ActorId, body: Body) -> Result<(), WorldFault>
         ensures ok { OnOk result (self.new ≡ record self.old { post = self.old.post ++ packet from to body ∷ [] }) }
         ensures err { OnErr result (self.new ≡ self.old) }
     {
-        match self.post.push(Packet { from, to, body }) {
-            Ok(()) => Ok(()),
-            Err(_full) => Err(WorldFault::Memory),
-        }
+        self.post.push(Packet { from, to, body })?;
+        Ok(())
     }
 
     /// The packet of a number comes to its node, or to the manager; nothing comes of one to somebody else, or that was never
@@ -185,20 +158,16 @@ impl StreamLayer {
         }
         make_room(&mut self.post)?;
         self.notes.make_room()?;
-        match take(
+        let step = take(
             &mut self.nodes,
             &mut self.manager,
             alloc,
             &self.post[number],
-        ) {
-            Ok(step) => {
-                let ActorStep { packets, notes, .. } = step;
-                move_in(&mut self.post, packets.into_vec());
-                self.notes.move_in(notes.into_vec());
-                Ok(None)
-            }
-            Err(fault) => Err(fault),
-        }
+        )?;
+        let ActorStep { packets, notes, .. } = step;
+        move_in(&mut self.post, packets.into_vec());
+        self.notes.move_in(notes.into_vec());
+        Ok(None)
     }
 
     /// A node or the manager stops, at once or in a device call.
@@ -221,7 +190,7 @@ impl StreamLayer {
     {
         match actor {
             ActorId::Node(number) => self.nodes.restart(alloc, number),
-            ActorId::Manager => restart_manager(&mut self.manager, alloc),
+            ActorId::Manager => self.manager.restart(alloc),
             ActorId::Map => Ok(()),
             ActorId::Server(_) => Ok(()),
             ActorId::User(_) => Ok(()),
@@ -237,20 +206,16 @@ impl StreamLayer {
     {
         make_room(&mut self.post)?;
         self.notes.make_room()?;
-        match self.manager.decide(alloc, extent) {
-            Ok(step) => {
-                let ActorStep {
-                    packets: sent,
-                    notes: shown,
-                    refusal,
-                    ..
-                } = step;
-                move_in(&mut self.post, sent.into_vec());
-                self.notes.move_in(shown.into_vec());
-                Ok(refusal)
-            }
-            Err(_full) => Err(WorldFault::Memory),
-        }
+        let step = self.manager.decide(alloc, extent)?;
+        let ActorStep {
+            packets: sent,
+            notes: shown,
+            refusal,
+            ..
+        } = step;
+        move_in(&mut self.post, sent.into_vec());
+        self.notes.move_in(shown.into_vec());
+        Ok(refusal)
     }
 
     /// The next event. It answers why an event is refused: a decision 1 or 10, and nothing else is. An error is out of memory
@@ -267,10 +232,10 @@ impl StreamLayer {
                 self.stop(*actor, *call, *keep);
                 Ok(None)
             }
-            Event::Restart { actor } => match self.restart(alloc, *actor) {
-                Ok(()) => Ok(None),
-                Err(fault) => Err(fault),
-            },
+            Event::Restart { actor } => {
+                self.restart(alloc, *actor)?;
+                Ok(None)
+            }
             Event::Decide { extent } => self.decide(alloc, *extent),
             Event::GiveUp { .. } => Ok(None),
             Event::Assign { .. } => Ok(None),
@@ -299,19 +264,15 @@ impl StreamLayer {
     {
         make_room(&mut self.post)?;
         self.notes.make_room()?;
-        match map.give(alloc, &self.post[number]) {
-            Ok(step) => {
-                let ActorStep {
-                    packets: told,
-                    notes: observed,
-                    ..
-                } = step;
-                move_in(&mut self.post, told.into_vec());
-                self.notes.move_in(observed.into_vec());
-                Ok(())
-            }
-            Err(_full) => Err(WorldFault::Memory),
-        }
+        let step = map.give(alloc, &self.post[number])?;
+        let ActorStep {
+            packets: told,
+            notes: observed,
+            ..
+        } = step;
+        move_in(&mut self.post, told.into_vec());
+        self.notes.move_in(observed.into_vec());
+        Ok(())
     }
 
     /// The map assigns a range. It answers why it does not: the range is unknown (30), or another server holds it at this moment
@@ -331,18 +292,14 @@ impl StreamLayer {
         ensures moment { map.new.moment ≡ map.old.moment }
     {
         make_room(&mut self.post)?;
-        match map.assign(alloc, range, server, until) {
-            Ok(step) => {
-                let ActorStep {
-                    packets,
-                    refusal,
-                    ..
-                } = step;
-                move_in(&mut self.post, packets.into_vec());
-                Ok(refusal)
-            }
-            Err(_full) => Err(WorldFault::Memory),
-        }
+        let step = map.assign(alloc, range, server, until)?;
+        let ActorStep {
+            packets,
+            refusal,
+            ..
+        } = step;
+        move_in(&mut self.post, packets.into_vec());
+        Ok(refusal)
     }
 
     /// The map renews the lease of a range. It answers why it does not: the server does not hold the range (30). An error is out
@@ -362,18 +319,14 @@ impl StreamLayer {
         ensures moment { map.new.moment ≡ map.old.moment }
     {
         make_room(&mut self.post)?;
-        match map.renew(alloc, range, server, until) {
-            Ok(step) => {
-                let ActorStep {
-                    packets,
-                    refusal,
-                    ..
-                } = step;
-                move_in(&mut self.post, packets.into_vec());
-                Ok(refusal)
-            }
-            Err(_full) => Err(WorldFault::Memory),
-        }
+        let step = map.renew(alloc, range, server, until)?;
+        let ActorStep {
+            packets,
+            refusal,
+            ..
+        } = step;
+        move_in(&mut self.post, packets.into_vec());
+        Ok(refusal)
     }
 
     /// A server takes the packet of this number. The room for what it sends and shows, and the rows of a table that it shows,
@@ -393,20 +346,16 @@ impl StreamLayer {
     {
         make_room(&mut self.post)?;
         self.notes.make_room()?;
-        match give(servers, alloc, server, &self.post[number], &mut self.notes) {
-            Ok(taken) => {
-                let Given { step, rows } = taken;
-                let ActorStep {
-                    packets: given,
-                    tables: shown,
-                    ..
-                } = step;
-                move_in(&mut self.post, given.into_vec());
-                show(alloc, &mut self.notes, shown, rows);
-                Ok(())
-            }
-            Err(_full) => Err(WorldFault::Memory),
-        }
+        let taken = give(servers, alloc, server, &self.post[number], &mut self.notes)?;
+        let Given { step, rows } = taken;
+        let ActorStep {
+            packets: given,
+            tables: shown,
+            ..
+        } = step;
+        move_in(&mut self.post, given.into_vec());
+        show(alloc, &mut self.notes, shown, rows);
+        Ok(())
     }
 
     /// A server gives up on what a range waits for. It answers why it does not: it does not hold the range (30). An error is
@@ -427,27 +376,23 @@ impl StreamLayer {
     {
         make_room(&mut self.post)?;
         self.notes.make_room()?;
-        match servers.give_up(alloc, server, range, pick) {
-            Ok(step) => {
-                let ActorStep {
-                    packets: again,
-                    tables: told,
-                    refusal,
-                    ..
-                } = step;
-                move_in(&mut self.post, again.into_vec());
-                show(
-                    alloc,
-                    &mut self.notes,
-                    told,
-                    Rows {
-                        items: Vec::new(alloc),
-                    },
-                );
-                Ok(refusal)
-            }
-            Err(_full) => Err(WorldFault::Memory),
-        }
+        let step = servers.give_up(alloc, server, range, pick)?;
+        let ActorStep {
+            packets: again,
+            tables: told,
+            refusal,
+            ..
+        } = step;
+        move_in(&mut self.post, again.into_vec());
+        show(
+            alloc,
+            &mut self.notes,
+            told,
+            Rows {
+                items: Vec::new(alloc),
+            },
+        );
+        Ok(refusal)
     }
 
     /// A server begins a checkpoint of a range, which combines the range's indexes where that is asked. It answers why it does not:
@@ -469,27 +414,23 @@ impl StreamLayer {
     {
         make_room(&mut self.post)?;
         self.notes.make_room()?;
-        match servers.checkpoint(alloc, server, range, combine) {
-            Ok(step) => {
-                let ActorStep {
-                    packets: asked,
-                    tables: told,
-                    refusal,
-                    ..
-                } = step;
-                move_in(&mut self.post, asked.into_vec());
-                show(
-                    alloc,
-                    &mut self.notes,
-                    told,
-                    Rows {
-                        items: Vec::new(alloc),
-                    },
-                );
-                Ok(refusal)
-            }
-            Err(_full) => Err(WorldFault::Memory),
-        }
+        let step = servers.checkpoint(alloc, server, range, combine)?;
+        let ActorStep {
+            packets: asked,
+            tables: told,
+            refusal,
+            ..
+        } = step;
+        move_in(&mut self.post, asked.into_vec());
+        show(
+            alloc,
+            &mut self.notes,
+            told,
+            Rows {
+                items: Vec::new(alloc),
+            },
+        );
+        Ok(refusal)
     }
 
     /// A server begins a split of a range at a key. It answers why it does not: it does not hold the range (30), the range is not
@@ -511,27 +452,23 @@ impl StreamLayer {
     {
         make_room(&mut self.post)?;
         self.notes.make_room()?;
-        match servers.split(alloc, server, range, key) {
-            Ok(step) => {
-                let ActorStep {
-                    packets: begun,
-                    tables: told,
-                    refusal,
-                    ..
-                } = step;
-                move_in(&mut self.post, begun.into_vec());
-                show(
-                    alloc,
-                    &mut self.notes,
-                    told,
-                    Rows {
-                        items: Vec::new(alloc),
-                    },
-                );
-                Ok(refusal)
-            }
-            Err(_full) => Err(WorldFault::Memory),
-        }
+        let step = servers.split(alloc, server, range, key)?;
+        let ActorStep {
+            packets: begun,
+            tables: told,
+            refusal,
+            ..
+        } = step;
+        move_in(&mut self.post, begun.into_vec());
+        show(
+            alloc,
+            &mut self.notes,
+            told,
+            Rows {
+                items: Vec::new(alloc),
+            },
+        );
+        Ok(refusal)
     }
 
     /// A server begins a merge of two ranges. It answers why it does not: it does not hold both (30), one is not served yet (38) or
@@ -553,27 +490,23 @@ impl StreamLayer {
     {
         make_room(&mut self.post)?;
         self.notes.make_room()?;
-        match servers.merge(alloc, server, left, right) {
-            Ok(step) => {
-                let ActorStep {
-                    packets: joined,
-                    tables: told,
-                    refusal,
-                    ..
-                } = step;
-                move_in(&mut self.post, joined.into_vec());
-                show(
-                    alloc,
-                    &mut self.notes,
-                    told,
-                    Rows {
-                        items: Vec::new(alloc),
-                    },
-                );
-                Ok(refusal)
-            }
-            Err(_full) => Err(WorldFault::Memory),
-        }
+        let step = servers.merge(alloc, server, left, right)?;
+        let ActorStep {
+            packets: joined,
+            tables: told,
+            refusal,
+            ..
+        } = step;
+        move_in(&mut self.post, joined.into_vec());
+        show(
+            alloc,
+            &mut self.notes,
+            told,
+            Rows {
+                items: Vec::new(alloc),
+            },
+        );
+        Ok(refusal)
     }
 
     /// All packets that were sent, in order: their places, from 0, are their numbers.

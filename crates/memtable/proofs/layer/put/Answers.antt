@@ -14,7 +14,7 @@ overflow_sub-result c =
 pub returns-in-Ok-clause-size : goal.returns-in-Ok-clause-size
 returns-in-Ok-clause-size c =
     let less : c.old_size-less.result ≡ old_size c.args.key (found c.args.layer.now.entries c.args.key) = c.old_size-less.ensures ∙ ap (λ (k : List ℕ). old_size k c.in-Ok.old) c.in_ok-back.ensures.cases ∙ ap (old_size c.args.key) c.in-Ok.ensures.old in
-    let added : c.entry_size-added.result ≡ entry_size c.args.key c.args.cell = c.entry_size-added.ensures ∙ ap (λ (k : List ℕ). entry_size k c.args.cell) c.deref.ensures in
+    let added : c.entry_size-added.result ≡ entry_size c.args.key c.args.cell = c.entry_size-added.ensures.size ∙ ap (λ (k : List ℕ). entry_size k c.args.cell) c.deref.ensures in
     omega (arith, less, added, size_found c.args.key c.args.layer.now.entries, c.requires.size, c.in-Some.ensures, size_insert c.args.key c.args.cell c.args.layer.now.entries c.in-Ok.ensures.was_ordered, ap entries_size c.in-Ok.ensures.entries)
 
 pub returns-in-Ok-clause-undos : goal.returns-in-Ok-clause-undos

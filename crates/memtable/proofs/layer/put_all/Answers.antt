@@ -1,6 +1,20 @@
-use Rattle.std.proofs.Common.{rules, arith}
+use Rattle.std.proofs.Common.{rules, arith, sym, subst}
 use Rattle.std.proofs.lemmas.Grind.{common_steps}
+use Rattle.memtable.specs.Entries.{AreNumbered}
+use Rattle.memtable.proofs.Entries.{numbered_insert}
 use Rattle.memtable.proofs.layer.put_all.Goals as goal
+
+-- the cell that was put has a number, too
+pub loop-key-preserved : goal.loop-key-preserved
+loop-key-preserved c = record {
+  entries = grind (arith, common_steps);
+  found = grind (arith, common_steps);
+  size = grind (arith, common_steps);
+  undos = grind (arith, common_steps);
+  fits = grind (arith, common_steps);
+  numbered = λ before.
+      subst AreNumbered (sym c.in-Ok.ensures.entries) (numbered_insert c.in-Some.key c.in-Some.cell c.loop-key.layer.entries c.in-Ok.ensures.numbered (c.loop-key.invariant.numbered before));
+}
 
 pub returns-in-Err-clause-err : goal.returns-in-Err-clause-err
 returns-in-Err-clause-err c = search rules

@@ -1,7 +1,7 @@
 use Rattle.std.proofs.Common.{◌≡◌, ◌+◌, ℕ, List}
 use Rattle.std.specs.List.{AllByRecursion}
 use Rattle.std.specs.Vec.Iter.{into_iter_items}
-use Rattle.memtable.specs.Entries.{IsFit, found, latest, put_all, entries_size, all_taken_back}
+use Rattle.memtable.specs.Entries.{AreNumbered, IsFit, found, latest, put_all, entries_size, all_taken_back}
 use Rattle.memtable.proofs.layer.put_all.Given as goal
 
 abbrev pub invariant-loop-key : goal.invariant-loop-key
@@ -11,4 +11,5 @@ invariant-loop-key l = record {
   size : l.grown + entries_size l.fn.layer.entries ≡ l.size + entries_size l.layer.entries;
   undos : all_taken_back l.undos.items l.layer.entries ≡ l.fn.layer.entries;
   fits : AllByRecursion IsFit (into_iter_items l.key-iterator);
+  numbered : AreNumbered l.fn.layer.entries → AreNumbered l.layer.entries;
 }

@@ -36,5 +36,5 @@ returns-clause-ok c =
     let blob = subst (λ (x : RangeState). with_blob x.blob_data (take c.count_below-count.result x.log.extents) to_blob ≡ record x.blob_data { extents = c.in_ok-blob.blob.items }) c.left.view_is c.in_ok-blob.ensures in
     right_begins d (trimmed l before to_blob) r job (sym c.may_checkpoint.ensures.value ∙ c.if-not-may_checkpoint.false)
     ∙ ap (λ (o : RangeOutcome). right_checkpointed o (trimmed l before to_blob) next) c.in_ok-taken.ensures.ok
-    ∙ ap (λ (x : RangeState). right_checkpointed (steps.outcome c.in_ok-taken.taken c.checkpoint.new.self) x next) (sym (c.trims-2.ensures to_blob below blob))
-    ∙ ap (λ (t : MergeTaken). outcome t c.trims-2.new.state c.checkpoint.new.self next) (sym c.right_taken.ensures)
+    ∙ ap (λ (x : RangeState). right_checkpointed (steps.outcome c.in_ok-taken.taken c.freeze.new.self) x next) (sym (c.trims-2.ensures to_blob below blob))
+    ∙ ap (λ (t : MergeTaken). outcome t c.trims-2.new.state c.freeze.new.self next) (sym c.right_taken.ensures)

@@ -1,7 +1,6 @@
-use Rattle.std.proofs.Common.{◌∙◌, ap, subst, sym}
+use Rattle.std.proofs.Common.{subst}
 use Rattle.world_checker.specs.declared.index.Sought.TheVariants.{All, Shown}
 use Rattle.world_checker.specs.Checking.{IsTold}
-use Rattle.world_checker.proofs.Places.{same_at}
 use Rattle.world_checker.proofs.Linking.{lead_over}
 use Rattle.world_checker.proofs.search.links_for.Goals as goal
 

@@ -1,11 +1,15 @@
+use Rattle.std.proofs.lemmas.Result.{IfOk-weaker}
 use Rattle.world_streams.proofs.EventSimulation.{node_moved, moved_manager, moved_nowhere, to_map, to_server, to_user}
 use Rattle.world_streams.proofs.stream_layer.take.Goals as goal
 
 pub returns-in-Node-clause-ok : goal.returns-in-Node-clause-ok
 returns-in-Node-clause-ok c = node_moved c.args.nodes.now c.give.new.self c.args.manager.now c.in-Node.number c.args.packet.now c.give.result c.in-Node.is c.give.ensures.ok
 
-pub returns-in-Ok-clause-ok : goal.returns-in-Ok-clause-ok
-returns-in-Ok-clause-ok c = moved_manager c.args.nodes.now c.args.manager.now c.give-in-Manager.new.self c.args.packet.now c.in-Ok.step c.in-Manager.is c.in-Ok.ensures.ok
+pub returns-in-Manager-clause-ok : goal.returns-in-Manager-clause-ok
+returns-in-Manager-clause-ok c =
+    IfOk-weaker c.give-in-Manager.result _ _
+    (λ step h. moved_manager c.args.nodes.now c.args.manager.now c.give-in-Manager.new.self c.args.packet.now step c.in-Manager.is h)
+    c.give-in-Manager.ensures.ok
 
 pub returns-in-Map-clause-ok : goal.returns-in-Map-clause-ok
 returns-in-Map-clause-ok c = rw c.silent.ensures (moved_nowhere c.args.nodes.now c.args.manager.now c.args.packet.now (to_map c.args.packet.now c.in-Map.is))

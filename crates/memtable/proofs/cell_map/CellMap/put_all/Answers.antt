@@ -8,5 +8,5 @@ use Rattle.memtable.proofs.cell_map.CellMap.put_all.Goals as goal
 pub invariant_of-self-2 : goal.invariant_of-self-2
 invariant_of-self-2 c = (
   omega (arith, c.in_ok-self-inside.ensures.size, c.self.invariant.0),
-  subst (AllByRecursion IsFit) (sym c.in_ok-self-inside.ensures.entries) (fits_put _ _ c.self.invariant.1 c.requires),
+  (subst (AllByRecursion IsFit) (sym c.in_ok-self-inside.ensures.entries) (fits_put _ _ c.self.invariant.1.0 c.requires), c.in_ok-self-inside.ensures.numbered c.self.invariant.1.1),
 )

@@ -21,9 +21,9 @@ returns-in-Manager-clause-ok c =
 pub returns-in-Map-clause-ok : goal.returns-in-Map-clause-ok
 returns-in-Map-clause-ok c =
     let was : ClusterState = cluster_of c.self.inside.stream_layer c.self.inside.servers c.self.inside.map in
-    subst (λ (x : ClusterState). OnOk c.restart_map.result (ClusterSimulates x (record was { map = c.restart_map.new.map }) (Restart c.args.actor))) c.self.view_is
-    (subst (λ (a : ActorId). OnOk c.restart_map.result (ClusterSimulates was (record was { map = c.restart_map.new.map }) (Restart a))) (sym c.in-Map.is)
-    (if_ok c.restart_map.result (restart_map_came was c.restart_map.new.map) c.restart_map.ensures.ok))
+    subst (λ (x : ClusterState). OnOk c.restart-in-Map.result (ClusterSimulates x (record was { map = c.restart-in-Map.new.self }) (Restart c.args.actor))) c.self.view_is
+    (subst (λ (a : ActorId). OnOk c.restart-in-Map.result (ClusterSimulates was (record was { map = c.restart-in-Map.new.self }) (Restart a))) (sym c.in-Map.is)
+    (if_ok c.restart-in-Map.result (restart_map_came was c.restart-in-Map.new.self) c.restart-in-Map.ensures.ok))
 
 pub returns-in-Server-clause-ok : goal.returns-in-Server-clause-ok
 returns-in-Server-clause-ok c =

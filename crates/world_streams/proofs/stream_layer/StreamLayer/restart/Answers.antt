@@ -7,5 +7,5 @@ use Rattle.world_streams.proofs.stream_layer.StreamLayer.restart.Goals as goal
 pub returns-in-Manager-clause-ok : goal.returns-in-Manager-clause-ok
 returns-in-Manager-clause-ok c =
     let was : StreamLayerState = state c.self.inside.nodes c.self.inside.manager c.self.inside.post.items c.self.inside.notes.items in
-    subst (λ (r : StreamLayerState). OnOk c.restart_manager.result ((w : StreamSystem) → StreamLayerMirrors r w → StreamLayerMirrors (record was { manager = c.restart_manager.new.manager }) (restart w c.args.actor))) c.self.view_is
-    (manager_came was c.restart_manager.new.manager c.args.actor c.restart_manager.result c.in-Manager.is c.restart_manager.ensures.ok)
+    subst (λ (r : StreamLayerState). OnOk c.restart-in-Manager.result ((w : StreamSystem) → StreamLayerMirrors r w → StreamLayerMirrors (record was { manager = c.restart-in-Manager.new.self }) (restart w c.args.actor))) c.self.view_is
+    (manager_came was c.restart-in-Manager.new.self c.args.actor c.restart-in-Manager.result c.in-Manager.is c.restart-in-Manager.ensures.ok)
