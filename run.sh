@@ -1,14 +1,18 @@
 #!/usr/bin/env bash
 # Runs a script with stampctl, and ends with its status. What was proved and built from the present sources is run; else the
 # program is run unproved, by `rt try`, and standard error says so. What a script prints is the same either way.
+# With --rows, .ci/rows builds it so and runs all rows.
 set -euo pipefail
 
 usage='usage: ./run.sh [--proved] [SCRIPT]
+       ./run.sh --rows
 
-Runs the file SCRIPT, or examples/acknowledged.script, with stampctl.
+Runs the file SCRIPT, or the row of that name, with stampctl; without SCRIPT the row acknowledged. The rows are the scripts of
+crates/tests_rows/data, each beside what it prints.
 
   --proved    proves and builds stampctl first, where that is not done: about an hour on four cores.
-              Without it, what was not proved and built before is run unproved, after about a minute and a half.'
+              Without it, what was not proved and built before is run unproved, after about a minute and a half.
+  --rows      builds stampctl, unproved, runs all rows, and tells each that prints or ends otherwise: some minutes.'
 
 stop() {
     printf 'run.sh: %s\n' "$1" >&2
@@ -31,6 +35,16 @@ prove() {
     touch -d "@$begun" "$program.stamp"
 }
 
+need_rt() {
+    command -v rt >/dev/null || stop 'rt, the command of the toolchain, is not on the path'
+}
+
+home=$(dirname -- "$(realpath -- "$0")")
+rows=$home/crates/tests_rows/data
+if [[ $* == --rows ]]; then
+    need_rt
+    exec "$home/.ci/rows"
+fi
 proved=no
 if [[ ${1-} == --proved ]]; then
     proved=yes
@@ -48,14 +62,15 @@ case $#:${1-} in
     ;;
 esac
 
-home=$(dirname -- "$(realpath -- "$0")")
-script=$(realpath -- "${1-"$home/examples/acknowledged.script"}")
-[[ -f $script && -r $script ]] || stop "$script is no file that can be read"
+script=${1-"$rows/acknowledged"}
+[[ -f $script ]] || script=$rows/$script
+[[ -f $script && -r $script ]] || stop "${1-"$script"} is neither a file that can be read nor a row"
+script=$(realpath -- "$script")
 cd -- "$home"
 program=crates/stampctl/out/stampctl
 
 if [[ $proved == yes ]] || ! is_proved; then
-    command -v rt >/dev/null || stop 'rt, the command of the toolchain, is not on the path'
+    need_rt
 fi
 if [[ $proved == yes ]]; then
     prove

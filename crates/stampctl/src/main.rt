@@ -28,7 +28,7 @@
 //!
 //! # Scripts
 //!
-//! The lines of a script, and those that are printed, are in docs/FORMATS.md. docs/WALKS.md goes through all of examples/. The
+//! The lines of a script, and those that are printed, are in docs/FORMATS.md. docs/WALKS.md goes through six. The
 //! gate runs the program on the file `stdin` beside this folder, and what it prints must be the file `stdout`.
 //!
 //! # What is proved of it
@@ -47,7 +47,7 @@
 //! that they print, failing readers and writers, each stop of a run with transactions, words that are read or wrong, and what no
 //! clause of `world_streams` says: that its calls succeed where there is memory, runs of it followed by hand, with clients of streams over
 //! them, and the rows that a loaded table shows. Of these a test goes through cases, each a list of steps in their order: what is
-//! done, with the answer that is wanted, or what is seen then.
+//! done, with the answer that is wanted, or what is seen then. Scripts that stand as files are run by `tests_rows`.
 //!
 //! Each actor of a run is asked whether it may go to another thread, in a struct of its own and behind a lock: a missing proof of it
 //! would show only where two threads share an actor.
@@ -69,8 +69,6 @@ mod drives;
 mod failover;
 #[cfg(test)]
 mod many_values;
-#[cfg(test)]
-mod maps;
 #[cfg(test)]
 mod merge_giving_up;
 #[cfg(test)]
@@ -101,8 +99,6 @@ mod stops;
 mod tables;
 #[cfg(test)]
 mod threads;
-#[cfg(test)]
-mod walks;
 #[cfg(test)]
 mod words_read;
 

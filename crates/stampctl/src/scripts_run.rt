@@ -52,10 +52,6 @@ const TOLD: &str = "user 1 0 created\nuser 1 1 extended 1\n";
 /// What is run below `BEGUN`, and what it prints below `TOLD`.
 const RUNS: &[(&str, &str)] = &[
     (
-        "user 1 append 1 1\nsettle\nuser 1 append 1 1 a a a a a a a a a a a a a a a a a a a a a a a a a a a a a a a a a a a a a a a a a a a a a a a a a a a a a a a a a a a a a a a a a\nsettle\nuser 1 append 1 1 -\nsettle\nuser 1 append 1 1 65537*a\nsettle\nshow 1 1\n",
-        "user 1 2 refused 6 TooManyBlocks\nuser 1 3 refused 6 TooManyBlocks\nuser 1 4 refused 5 BadBlock\nuser 1 5 refused 5 BadBlock\nreplica 1 1 open 0 0\n",
-    ),
-    (
         "user 1 append 1 1 abc de\ndeliver 7\nshow 1 1\nshow 2 1\nshow 3 2\n",
         "replica 1 1 open 5 0\nreplica 2 1 open 0 0\nreplica 3 2 none\n",
     ),
@@ -108,59 +104,10 @@ const RUNS: &[(&str, &str)] = &[
         "user 1 2 refused 2 NotPrimary\nuser 1 3 refused 1 NoSuchExtent\n",
     ),
     ("settle\ndeliver last", "user 1 1 extended 1\n"),
-    // One place is cut off from the last append, and the extent is sealed at what it has.
-    (
-        "user 1 append 1 1 abc\nsettle\ncut n3\nuser 1 append 1 1 def\nsettle\nheal n3\nuser 1 seal 1\nsettle\ndecide 1\nsettle\n",
-        "acked 1 0 3\nuser 1 2 appended 0\nsealed 1 3\nuser 1 4 sealedis 1 3\n",
-    ),
-    // Two of three answer, and the one that lacks the end is filled.
-    (
-        "user 1 append 1 1 abc\nsettle\ncut n3\nuser 1 append 1 1 def\nsettle\nshow 1 1\nshow 2 1\nshow 3 1\ncut n2\nuser 1 seal 1\nsettle\ndecide 1\nsettle\nheal n2\nheal n3\ndecide 1\nsettle\nuser 1 content 3 1 6\nsettle\n",
-        "acked 1 0 3\nuser 1 2 appended 0\nreplica 1 1 open 6 0\nreplica 2 1 open 6 0\nreplica 3 1 open 3 0\nsealed 1 6\nuser 1 4 sealedis 1 6\ncontent 1 3 6 2\nuser 1 5 content 6\n",
-    ),
-    // Only the shortest answers, and the longer ones are cut.
-    (
-        "user 1 append 1 1 abc\nsettle\nuser 1 append 1 1 def\nsettle\ncut n3\nuser 1 append 1 1 ghi\nsettle\nshow 1 1\nshow 2 1\nshow 3 1\nheal n3\ncut n1\ncut n2\nuser 1 seal 1\nsettle\ndecide 1\nheal n1\nheal n2\ndecide 1\nsettle\nshow 1 1\nshow 2 1\nshow 3 1\nuser 1 content 1 1 6\nsettle\nuser 1 content 2 1 6\nsettle\nuser 1 content 3 1 6\nsettle\n",
-        "acked 1 0 3\nuser 1 2 appended 0\nacked 1 3 3\nuser 1 3 appended 3\nreplica 1 1 open 9 0\nreplica 2 1 open 9 0\nreplica 3 1 open 6 0\nsealed 1 6\nuser 1 5 sealedis 1 6\nreplica 1 1 sealed 6 0\nreplica 2 1 sealed 6 0\nreplica 3 1 sealed 6 0\ncontent 1 1 6 2\nuser 1 6 content 6\ncontent 1 2 6 2\nuser 1 7 content 6\ncontent 1 3 6 2\nuser 1 8 content 6\n",
-    ),
-    // A stream goes on after a sealed extent, and another last one is named; after an open one nothing is made.
-    (
-        "user 1 append 1 1 abc\nsettle\ncut n3\nuser 1 append 1 1 def\nsettle\nheal n3\nuser 1 seal 1\nsettle\ndecide 1\nsettle\nuser 1 extend 0 1 1 2 3\nsettle\nuser 1 append 1 2 def\nsettle\nuser 1 extend 0 1 1 2 3\nsettle\nuser 1 extend 0 2 1 2 3\nsettle\n",
-        "acked 1 0 3\nuser 1 2 appended 0\nsealed 1 3\nuser 1 4 sealedis 1 3\nuser 1 5 extended 2\nacked 2 0 3\nuser 1 6 appended 0\nuser 1 7 extended 2\nuser 1 8 refused 13 LastOpen\n",
-    ),
-    (
-        "user 1 create 0\nsettle\nuser 1 extend 2 none 1 2 3\nsettle\nuser 1 create 1\nsettle\nuser 1 extend 1 none 1 1 3\nsettle\n",
-        "user 1 2 refused 12 NameTaken\nuser 1 3 refused 11 NoSuchStream\nuser 1 4 created\nuser 1 5 refused 14 BadPick\n",
-    ),
     // A place that is no node.
     (
         "user 1 create 1\nsettle\nuser 1 extend 1 none 1 2 4\nsettle\nuser 1 extend 1 none 3 2 1\nsettle\n",
         "user 1 2 created\nuser 1 3 refused 14 BadPick\nuser 1 4 extended 2\n",
-    ),
-    // Nobody has told a length.
-    (
-        "decide 1\nshow 1 1\n",
-        "refused 10 NoReply\nreplica 1 1 open 0 0\n",
-    ),
-    // A freeze stands over a stop.
-    (
-        "cut n1\ncut n3\nuser 1 seal 1\nsettle\nheal n1\nheal n3\nshow 2 1\nstop n2 0 drop\nshow 2 1\nrestart n2\nshow 2 1\nuser 1 append 1 1 abc\nsettle\nshow 1 1\nshow 2 1\nshow 3 1\n",
-        "replica 2 1 frozen 0 0\nreplica 2 1 stopped\nreplica 2 1 frozen 0 0\nreplica 1 1 open 3 0\nreplica 2 1 frozen 0 0\nreplica 3 1 open 3 0\n",
-    ),
-    // A stop in the second call of a record: it is gone.
-    (
-        "user 1 append 1 1 abc\nstop n1 2 keep\ndeliver 7\nshow 1 1\nrestart n1\nshow 1 1\n",
-        "replica 1 1 stopped\nreplica 1 1 open 0 0\n",
-    ),
-    // One in the third, whose bytes are lost.
-    (
-        "user 1 append 1 1 abc\nstop n1 3 drop\ndeliver 7\nshow 1 1\nrestart n1\nshow 1 1\n",
-        "replica 1 1 stopped\nreplica 1 1 open 0 0\n",
-    ),
-    // One in the third, whose bytes are kept: it stands. A stopped or fresh primary answers nothing of it.
-    (
-        "user 1 append 1 1 abc\nstop n1 3 keep\ndeliver 7\nshow 1 1\nrestart n1\nshow 1 1\nuser 1 append 1 1 d\nsettle\nuser 1 seal 1\nsettle\ndecide 1\nsettle\nuser 1 content 1 1 0\nsettle\n",
-        "replica 1 1 stopped\nreplica 1 1 open 3 0\nsealed 1 0\nuser 1 4 sealedis 1 0\ncontent 1 1 0 0\nuser 1 5 content 0\n",
     ),
     // Unknown extents, restarts of those that run, and a manager that is stopped.
     (
@@ -176,31 +123,6 @@ const RUNS: &[(&str, &str)] = &[
 
 /// Appends that all three replicas take, and reads of them.
 const READS: &[(&str, &str)] = &[
-    (
-        "user 1 append 1 1 abc de\nsettle\nuser 1 append 1 1 f\nsettle\n",
-        "acked 1 0 5\nuser 1 2 appended 0\nacked 1 5 1\nuser 1 3 appended 5\n",
-    ),
-    (
-        "user 1 append 1 1 abc\ndeliver 7\ndeliver 7\nsettle\n",
-        "acked 1 0 3\nacked 1 3 3\nuser 1 2 appended 0\nuser 1 2 appended 3\n",
-    ),
-    (
-        "user 1 append 1 1 abc\nuser 1 append 1 1 def\ndeliver 7\ndeliver 8\ndeliver 11\nshow 2 1\ndeliver 9\nshow 2 1\ndeliver 11\nshow 2 1\nsettle\n",
-        "replica 2 1 open 0 0\nreplica 2 1 open 3 0\nreplica 2 1 open 6 0\nacked 1 0 3\nacked 1 3 3\nuser 1 2 appended 0\nuser 1 3 appended 3\n",
-    ),
-    // Appends of two extents, whose packets are delivered out of order: each extent answers its own, the oldest first.
-    (
-        "user 1 create 3\nsettle\nuser 1 extend 3 none 1 2 3\nsettle\nuser 1 append 1 1 ab\nuser 1 append 1 2 cde\nuser 1 append 1 1 f\ndeliver 14\ndeliver 15\ndeliver 16\ndeliver 17\ndeliver 21\ndeliver 18\ndeliver 22\ndeliver 24\nshow 1 1\ndeliver 26\nsettle\n",
-        "user 1 2 created\nuser 1 3 extended 2\nreplica 1 1 open 3 0\nacked 1 0 2\nacked 1 2 1\nuser 1 4 appended 0\nuser 1 6 appended 2\nacked 2 0 3\nuser 1 5 appended 0\n",
-    ),
-    (
-        "user 1 append 1 1 4095*a\nsettle\nuser 1 append 1 1 65536*b 65536*b 65536*b 65536*b 65536*b 65536*b 65536*b 65536*b 65536*b 65536*b 65536*b 65536*b 65536*b 65536*b 65536*b 65536*b 65536*b 65536*b 65536*b 65536*b 65536*b 65536*b 65536*b 65536*b 65536*b 65536*b 65536*b 65536*b 65536*b 65536*b 65536*b 65536*b 65536*b 65536*b 65536*b 65536*b 65536*b 65536*b 65536*b 65536*b 65536*b 65536*b 65536*b 65536*b 65536*b 65536*b 65536*b 65536*b 65536*b 65536*b 65536*b 65536*b 65536*b 65536*b 65536*b 65536*b 65536*b 65536*b 65536*b 65536*b 65536*b 65536*b 65536*b 65536*b\nsettle\nshow 1 1\nuser 1 append 1 1 c\nsettle\n",
-        "acked 1 0 4095\nuser 1 2 appended 0\nacked 1 4095 4194304\nuser 1 3 appended 4095\nreplica 1 1 open 4198399 0\nuser 1 4 refused 7 ExtentFull\n",
-    ),
-    (
-        "user 1 append 1 1 abc de\nsettle\nuser 1 append 1 1 f\nsettle\nuser 1 read 2 1 3 3\nsettle\nuser 1 read 2 1 4 3\nsettle\n",
-        "acked 1 0 5\nuser 1 2 appended 0\nacked 1 5 1\nuser 1 3 appended 5\nseen 1 2 3 3\nuser 1 4 bytes 646566\nuser 1 5 refused 8 PastEnd\n",
-    ),
     // A secondary that is cut off keeps the append from being answered, and what it missed is not delivered later.
     (
         "cut n3\nuser 1 append 1 1 abc\nsettle\nheal n3\nsettle\nshow 1 1\nshow 2 1\nshow 3 1\n",

@@ -1,5 +1,4 @@
 //! Scripts in which a server splits a range, and what they print. What is wanted was worked out by hand from the rules.
-use crate::checkpoint_scripts::with_value;
 use crate::printed::{joined, prints};
 use std::alloc::Global;
 use std::test::Fail;
@@ -10,11 +9,6 @@ const SCRIPTS: &[(&str, &str, &str)] = &[
         "a range is split while a transaction is committed, and both parts serve on",
         "setup 3 1 4096 1\nmoment 1\nassign 1 1 100\nsettle\nuser 1 tx 1 1 +a=1 +z=2\nsettle\nsplit 1 1 m\ndeliver last\ndeliver last\nuser 1 tx 1 1 +a=3 -z\nsettle\ndecide 3\nsettle\ndecide 1\nsettle\ndecide 2\nsettle\nassign 2 1 200\nsettle\nassign 3 1 200\nsettle\nuser 1 tx 1 2 +a=5\nsettle\nuser 1 tx 1 3 +x=7\nsettle\nuser 1 route a\nsettle\nuser 1 get 1 2 a\nsettle\nuser 1 get 1 3 z\nsettle\nuser 1 get 1 3 y\nsettle\nuser 1 get 1 2 z\nsettle\nuser 1 get 1 1 a\nsettle\nuser 1 route z\nsettle\n",
         "loaded 1 1 1 0\nbegan 1 1 1\nacked 1 0 33\ndone 1 1 1\nuser 1 0 committed 1\nbegan 1 1 2\nacked 1 33 28\nacked 2 0 20\ndone 1 1 2\nuser 1 1 committed 2\nacked 2 20 28\nacked 3 0 46\nacked 3 46 28\nsealed 3 74\nsealed 1 61\nsealed 2 48\nacked 4 0 15\nacked 5 0 15\nsplit 1 2 3 6d\ncontent 3 1 74 2\nseen 4 1 0 15\ncontent 1 1 61 2\nseen 2 1 20 28\nloaded 2 2 3 1\ncontent 3 1 74 2\nseen 5 1 0 15\ncontent 1 1 61 2\nseen 2 1 20 28\nloaded 3 2 3 0\nbegan 2 2 3\nacked 6 0 24\ndone 2 2 3\nuser 1 2 committed 3\nbegan 3 2 3\nacked 7 0 24\ndone 3 2 3\nuser 1 3 committed 3\nuser 1 4 route 2 1\nuser 1 5 value 35\nuser 1 6 value none\nseen 2 1 0 20\nuser 1 7 value none\nuser 1 8 refused 33 OutOfRange\nuser 1 9 refused 30 NotOwner\nuser 1 10 route 3 1\n",
-    ),
-    (
-        "a server that stops once the streams of both parts are built loads the whole range again",
-        "setup 3 1 4096 1\nmoment 1\nassign 1 1 100\nsettle\nuser 1 tx 1 1 +a=1 +z=2\nsettle\nsplit 1 1 m\ndeliver last\ndeliver last\nuser 1 tx 1 1 +a=3 -z\nsettle\ndecide 3\nsettle\ndecide 1\nsettle\ndecide 2\ndeliver last\ndeliver last\nstop s1 0 drop\nrestart s1\nassign 1 1 100\nsettle\n",
-        "loaded 1 1 1 0\nbegan 1 1 1\nacked 1 0 33\ndone 1 1 1\nuser 1 0 committed 1\nbegan 1 1 2\nacked 1 33 28\nacked 2 0 20\ndone 1 1 2\nuser 1 1 committed 2\nacked 2 20 28\nacked 3 0 46\nacked 3 46 28\nsealed 3 74\nsealed 1 61\nsealed 2 48\ncontent 3 1 74 2\ncontent 1 1 61 2\nseen 2 1 20 28\nloaded 1 2 3 1\n",
     ),
     (
         "ranges that are not merged, keys that split no range, and a part that is split again",
@@ -67,6 +61,17 @@ fn prints_what_splits_do(rt: HostRuntime) -> Result<(), Fail> {
         assert!(rt; prints(rt.alloc(), text, want)?, "{shows}");
     }
     Ok(())
+}
+
+/// What is printed of so many bytes of the letter `q`, behind a text.
+fn with_value(alloc: Global, text: &str, count: usize) -> Result<String, Fail> {
+    let mut all = String::new(alloc);
+    all.push_str(text)?;
+    for _ in 0..count {
+        all.push_str("71")?;
+    }
+    all.push_str("\n")?;
+    Ok(all)
 }
 
 /// Whether such a script that goes on so prints this, with the value behind it.

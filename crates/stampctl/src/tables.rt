@@ -4,26 +4,6 @@ use std::test::Fail;
 
 /// Whole scripts, and what they print.
 const TABLES: &[(&str, &str)] = &[
-    // A group that no replica has is gone with the lease, and a late copy of it is refused.
-    (
-        "setup 3 2 4096 1\nmoment 1\nassign 1 1 100\nsettle\nuser 1 tx 1 1 +a=x\nsettle\nuser 1 tx 1 1 +b=y\ndeliver last\ncut n1\nsettle\nheal n1\nmoment 100\nassign 1 2 200\nsettle\ndeliver 19\nassign 1 2 200\nsettle\n",
-        "loaded 1 1 1 0\nbegan 1 1 1\nacked 1 0 24\ndone 1 1 1\nuser 1 0 committed 1\nbegan 1 1 2\nseen 1 1 0 24\nloaded 1 2 2 1\nuser 1 1 refused 30 NotOwner\nseen 1 1 0 24\nloaded 1 3 2 1\n",
-    ),
-    // Three transactions: the first alone, and the two that came meanwhile in one group.
-    (
-        "setup 3 1 4096 8\nmoment 1\nassign 1 1 100\nsettle\nuser 1 tx 1 1 +a=1\ndeliver last\nuser 1 tx 1 1 +b=2\ndeliver last\nuser 1 tx 1 1 +c=3\ndeliver last\nsettle\n",
-        "loaded 1 1 1 0\nbegan 1 1 1\nacked 1 0 24\ndone 1 1 1\nbegan 1 1 2\nbegan 1 1 3\nuser 1 0 committed 1\nacked 1 24 34\ndone 1 1 2\ndone 1 1 3\nuser 1 1 committed 2\nuser 1 2 committed 3\n",
-    ),
-    // A transaction that was appended and not answered is in the next load.
-    (
-        "setup 3 1 4096 1\nmoment 1\nassign 1 1 100\nsettle\nuser 1 tx 1 1 +a=x\nsettle\nuser 1 tx 1 1 +b=y\ndeliver last\ncut s1\nsettle\nstop s1 0 drop\nrestart s1\nheal s1\nassign 1 1 100\nsettle\n",
-        "loaded 1 1 1 0\nbegan 1 1 1\nacked 1 0 24\ndone 1 1 1\nuser 1 0 committed 1\nbegan 1 1 2\nacked 1 24 24\nseen 1 1 0 48\nloaded 1 2 3 2\n",
-    ),
-    // One that no replica has is not, and its number is given again.
-    (
-        "setup 3 1 4096 1\nmoment 1\nassign 1 1 100\nsettle\nuser 1 tx 1 1 +a=x\nsettle\nuser 1 tx 1 1 +b=y\ndeliver last\ncut n1\nsettle\nstop s1 0 drop\nrestart s1\nheal n1\nassign 1 1 100\nsettle\nuser 1 tx 1 1 +c=z\nsettle\n",
-        "loaded 1 1 1 0\nbegan 1 1 1\nacked 1 0 24\ndone 1 1 1\nuser 1 0 committed 1\nbegan 1 1 2\nseen 1 1 0 24\nloaded 1 2 2 1\nbegan 1 2 2\nacked 1 24 24\ndone 1 2 2\nuser 1 2 committed 2\n",
-    ),
     // Each refusal by its name: of the map, of a server that does not hold the range or still loads it, of bad transactions and keys, and at the end of the lease.
     (
         "setup 3 2 4096 1\nassign 2 1 100\nassign 1 1 100\nassign 1 2 100\ngiveup 1 1 1 2 3\nuser 1 tx 1 1 +a=x\ndeliver last\nuser 1 tx 2 1 +a=x\nuser 1 get 2 1 a\nuser 1 get 1 2 a\ndeliver 0\nuser 1 tx 1 1 +a=x\ndeliver last\nuser 1 get 1 1 a\ndeliver last\nsettle\nuser 1 tx 1 1\nuser 1 tx 1 1 +=x\nuser 1 tx 1 1 +a=65537*x\nuser 1 get 1 1 a\nsettle\nuser 1 tx 1 1 +a=x -b +b=-\nsettle\nuser 1 get 1 1 a\nuser 1 get 1 1 b\nuser 1 get 1 1 c\nuser 1 tx 1 1 -a\nsettle\nuser 1 get 1 1 a\ngiveup 1 1 3 2 1\ngiveup 2 1 3 2 1\ngiveup 9 1 3 2 1\nsettle\nmoment 99\nmoment 5\nmoment 100\nuser 1 tx 1 1 +a=x\nuser 1 get 1 1 b\nsettle\nassign 1 2 200\nsettle\nassign 1 1 300\nuser 1 get 2 1 b\nsettle\n",

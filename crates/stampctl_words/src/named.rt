@@ -19,7 +19,7 @@ pub enum Task<'a> {
 
 /// What the help ends with.
 const AFTER_HELP: &str = "\
-The lines of a script are those of docs/FORMATS.md, and examples/ has some scripts.
+The lines of a script are those of docs/FORMATS.md, and crates/tests_rows/data has some scripts.
 Status 0: the script ran to its end. 1: it was refused, as the last line says. 2: wrong words.";
 
 /// A subcommand with one file.
