@@ -19,4 +19,6 @@ mod session;
 mod tickets;
 
 pub use error::Failure;
+pub use plan::{Plan, read_plan};
 pub use running::{run_text, script};
+pub use session::{MOST_DELIVERIES, Session};

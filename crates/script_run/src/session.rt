@@ -5,7 +5,7 @@ ghost use Rattle.script_run.specs.Deliveries.{Delivered, IsLowest, Passed, is_sa
 ghost use Rattle.script_run.specs.Failures.{IsRunFailure};
 ghost use Rattle.script_run.specs.Output.{Prints};
 ghost use Rattle.script_run.specs.Playing.{Delivers, DeliversPacket, Happens, IsFresh, IsSettled, Plays, Settles, Submits};
-ghost use Rattle.world.specs.Cluster.{ClusterMirrors};
+ghost use Rattle.world.specs.Cluster.{ClusterMirrors, IsRun};
 
 use crate::deliveries::Deliveries;
 use crate::error::Failure;
@@ -17,11 +17,11 @@ use script_reports::{Report, report_answer};
 use std::alloc::{AllocError, Global};
 use std::io::Write;
 use std::marker::Model;
-use wire::{ActorId, ReqNo};
+use wire::{ActorId, Packet, ReqNo};
 use world::{Event, Run, Setup};
 
 /// The most packets that one settle delivers.
-const MOST_DELIVERIES: usize = 100_000;
+pub const MOST_DELIVERIES: usize = 100_000;
 
 /// The actors, the network, what users have asked, and to whom no settle delivers.
 #[derive(Drop)]
@@ -63,6 +63,14 @@ impl Session {
             tickets: Tickets::new(alloc),
             cut: Vec::new(alloc),
         })
+    }
+
+    /// All packets that were sent, in order: their places, from 0, are their numbers.
+    pub fn sent(&self) -> &[Packet]
+        ensures sent { result.now ≡ self.now.run.stream_layer.post }
+        ensures led { IsRun self.now.run }
+    {
+        self.run.sent()
     }
 
     /// Runs a line, and prints what is observed and answered. An error is out of memory (22), or that the writer failed.
@@ -122,8 +130,9 @@ impl Session {
         )
     }
 
-    /// A number that was never sent delivers nothing.
-    fn deliver<W: Write>(&mut self, number: usize, writer: &mut W) -> Result<(), Failure>
+    /// Delivers the packet of this number, and prints what is observed and the answer that it brings to a user. A number that was
+    /// never sent delivers nothing. An error is out of memory (22), or that the writer failed.
+    pub fn deliver<W: Write>(&mut self, number: usize, writer: &mut W) -> Result<(), Failure>
         ensures delivers { OnOk result (Prints (W.contents writer.old) (W.contents writer.new)
             (λ text. Delivers self.old number text self.new)) }
         ensures failed { IfErr result IsRunFailure }
@@ -171,8 +180,8 @@ impl Session {
         print_some(answer, writer)
     }
 
-    /// The lowest packet that a settle takes, where there is one; those below it are passed over.
-    fn lowest(&mut self) -> Result<Option<usize>, AllocError>
+    /// The lowest packet that a settle takes, where there is one; those below it are passed over. An error is out of memory (22).
+    pub fn lowest(&mut self) -> Result<Option<usize>, AllocError>
         ensures found { IfOk result (λ found. IfSome found (λ n. IsLowest self.old.cut self.old.run.stream_layer.post self.old.noted n
             × Passed self.old.noted n self.new.noted)) }
         ensures none { IfOk result (λ found. IfNone found (IsSettled self.old self.new)) }

@@ -2,11 +2,13 @@
 //!
 //! # Words
 //!
-//!     stampctl                runs the script on standard input
-//!     stampctl run FILE       runs the script of a file
-//!     stampctl --help         tells these, on standard output
+//!     stampctl                                runs the script on standard input
+//!     stampctl run [FILE]                     runs the script of a file
+//!     stampctl trace [FILE]                   runs it, and prints each event with the packets that it sent
+//!     stampctl draw [FILE] [--from N] [--to M]    runs it, and writes a drawing of events N to M, as SVG
+//!     stampctl --help                         tells these, on standard output
 //!
-//! A `--` may stand before FILE, so that the file's name may begin with a hyphen. What the words name is told by
+//! Without FILE the script is that on standard input. A `--` may stand before FILE, so that the file's name may begin with a hyphen. What the words name is told by
 //! `stampctl_words`, and `stampctl_tasks` does it.
 //!
 //! # What it touches

@@ -3,18 +3,87 @@ use stampctl_words::{Task, command};
 use std::alloc::Global;
 use std::test::Fail;
 
-/// Words, and the file that they name, where they name a task.
-type Case = (&'static [&'static str], Option<Option<&'static str>>);
+/// A task, as the table below spells it.
+#[derive(Clone, Copy, PartialEq)]
+enum Wanted<'a> {
+    Run(Option<&'a str>),
+    Trace(Option<&'a str>),
+    Draw(Option<&'a str>, Option<u64>, Option<u64>),
+    Wrong,
+}
+
+use Wanted::{Draw, Run, Trace, Wrong};
+
+/// Words, and the task that they name.
+type Case = (&'static [&'static str], Wanted<'static>);
 
 const CASES: &[Case] = &[
-    (&["stampctl"], Some(None)),
-    (&["stampctl", "run", "a b"], Some(Some("a b"))),
-    (&["stampctl", "run", "--", "-x"], Some(Some("-x"))),
-    (&["stampctl", "run", "c", "--"], Some(Some("c"))),
-    (&["stampctl", "run", "-"], Some(Some("-"))),
-    (&["stampctl", "run"], None),
-    (&["stampctl", "run", "a", "b"], None),
-    (&["stampctl", "storm", "a"], None),
+    (&["stampctl"], Run(None)),
+    (&["stampctl", "--"], Run(None)),
+    (&["stampctl", "run", "a b"], Run(Some("a b"))),
+    (&["stampctl", "run", "--", "-x"], Run(Some("-x"))),
+    (&["stampctl", "run", "c", "--"], Run(Some("c"))),
+    (&["stampctl", "run", "-"], Run(Some("-"))),
+    (&["stampctl", "run"], Run(None)),
+    (&["stampctl", "run", "--"], Run(None)),
+    (&["stampctl", "run", ""], Run(Some(""))),
+    (&["stampctl", "run", "run"], Run(Some("run"))),
+    (&["stampctl", "trace"], Trace(None)),
+    (&["stampctl", "trace", "a"], Trace(Some("a"))),
+    (
+        &["stampctl", "trace", "--", "--from"],
+        Trace(Some("--from")),
+    ),
+    (&["stampctl", "draw"], Draw(None, None, None)),
+    (&["stampctl", "draw", "a"], Draw(Some("a"), None, None)),
+    (
+        &[
+            "stampctl",
+            "draw",
+            "a",
+            "--from",
+            "3",
+            "--to",
+            "18446744073709551615",
+        ],
+        Draw(Some("a"), Some(3), Some(u64::MAX)),
+    ),
+    (
+        &["stampctl", "draw", "--to", "0", "a"],
+        Draw(Some("a"), None, Some(0)),
+    ),
+    (
+        &["stampctl", "draw", "--to=07", "--from=+5"],
+        Draw(None, Some(5), Some(7)),
+    ),
+    (
+        &["stampctl", "draw", "--from", "9", "--", "--to"],
+        Draw(Some("--to"), Some(9), None),
+    ),
+    (
+        &["stampctl", "draw", "a", "--to", "2", "--"],
+        Draw(Some("a"), None, Some(2)),
+    ),
+    (&["stampctl", "a"], Wrong),
+    (&["stampctl", "--", "run"], Wrong),
+    (&["stampctl", "storm", "a"], Wrong),
+    (&["stampctl", "run", "a", "b"], Wrong),
+    (&["stampctl", "run", "-x"], Wrong),
+    (&["stampctl", "run", "--from", "3"], Wrong),
+    (&["stampctl", "trace", "a", "--to=3"], Wrong),
+    (&["stampctl", "draw", "a", "b"], Wrong),
+    (&["stampctl", "draw", "--from"], Wrong),
+    (&["stampctl", "draw", "--from", "--to", "3"], Wrong),
+    (&["stampctl", "draw", "--from", "--", "3"], Wrong),
+    (&["stampctl", "draw", "--from", "3", "--from", "3"], Wrong),
+    (&["stampctl", "draw", "--to", "3", "a", "--to=4"], Wrong),
+    (&["stampctl", "draw", "--from", "a"], Wrong),
+    (&["stampctl", "draw", "--from="], Wrong),
+    (&["stampctl", "draw", "--from", "-3"], Wrong),
+    (&["stampctl", "draw", "--to", "18446744073709551616"], Wrong),
+    (&["stampctl", "draw", "--fro", "3"], Wrong),
+    (&["stampctl", "draw", "--events", "3"], Wrong),
+    (&["stampctl", "draw", "-f", "3"], Wrong),
 ];
 
 fn owned(alloc: Global, words: &[&str]) -> Result<Vec<String>, Fail> {
@@ -25,10 +94,12 @@ fn owned(alloc: Global, words: &[&str]) -> Result<Vec<String>, Fail> {
     Ok(owned)
 }
 
-fn names(alloc: Global, words: &[String], wanted: Option<Option<&str>>) -> bool {
+fn names(alloc: Global, words: &[String], wanted: Wanted<'_>) -> bool {
     match command(alloc, words) {
-        Ok(Task::Run(file)) => wanted == Some(file),
-        Err(_wrong) => wanted.is_none(),
+        Ok(Task::Run(file)) => wanted == Run(file),
+        Ok(Task::Trace(file)) => wanted == Trace(file),
+        Ok(Task::Draw { file, from, to }) => wanted == Draw(file, from, to),
+        Err(_wrong) => wanted == Wrong,
     }
 }
 

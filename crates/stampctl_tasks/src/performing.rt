@@ -7,8 +7,10 @@ ghost use Rattle.clap.specs.declared.error.Error.{Error};
 ghost use Rattle.stampctl_words.specs.declared.named.CommandError.TheVariants.{Memory, WrongWords};
 
 use crate::escaped::Escaped;
+use script_drawing::{Part, write_drawing};
 use script_lines::lines_of;
 use script_run::{Failure, run_text};
+use script_steps::{event_lines, steps_of, write_trace};
 use stampctl_words::{CommandError, Task};
 use std::alloc::Global;
 use std::fs;
@@ -103,6 +105,23 @@ fn finish<R: Print>(rt: &R, ended: &Result<(), Failure>, written: &[u8]) -> Exit
     }
 }
 
+/// Prints what a script wrote, and how it ended, and where it is none tells the line.
+fn end<R: Eprint + Print>(
+    rt: &R,
+    alloc: Global,
+    text: &[u8],
+    ended: Result<(), Failure>,
+    written: &[u8],
+) -> ExitCode
+    ensures { exit_status result < 2 }
+{
+    let status = finish(rt, &ended, written);
+    if let Err(Failure::BadScript(number)) = ended {
+        tell_line(rt, alloc, text, number);
+    }
+    status
+}
+
 /// Runs the script over bytes in memory, so that what `run_text` promises is said of this very call.
 fn run<R: Eprint + Files + Input + Print>(rt: &R, alloc: Global, path: Option<&str>) -> ExitCode
     ensures { exit_status result < 2 }
@@ -113,11 +132,65 @@ fn run<R: Eprint + Files + Input + Print>(rt: &R, alloc: Global, path: Option<&s
     };
     let mut written = Vec::new(alloc);
     let ended = run_text(alloc, &mut text, &mut written);
-    let status = finish(rt, &ended, &written);
-    if let Err(Failure::BadScript(number)) = ended {
-        tell_line(rt, alloc, &text, number);
+    end(rt, alloc, &text, ended, &written)
+}
+
+/// Writes the trace of the script of this text.
+fn write_trace_of(alloc: Global, text: &[u8], written: &mut Vec<u8>) -> Result<(), Failure> {
+    let steps = steps_of(alloc, text)?;
+    let lines = event_lines(alloc, text)?;
+    write_trace(&steps, lines.as_slice(), written).map_err(Failure::Output)
+}
+
+/// Writes the drawing of a part of the script of this text.
+fn write_drawing_of(
+    alloc: Global,
+    text: &[u8],
+    part: Part,
+    written: &mut Vec<u8>,
+) -> Result<(), Failure> {
+    let steps = steps_of(alloc, text)?;
+    let lines = event_lines(alloc, text)?;
+    write_drawing(alloc, &steps, lines.as_slice(), part, written)
+}
+
+/// The events from one to another, which are the first and the last where none is named.
+fn part_of(from: Option<u64>, to: Option<u64>) -> Part {
+    Part {
+        from: from.unwrap_or(1) as usize,
+        to: to.unwrap_or(u64::MAX) as usize,
     }
-    status
+}
+
+/// Prints the trace of a script.
+fn trace<R: Eprint + Files + Input + Print>(rt: &R, alloc: Global, path: Option<&str>) -> ExitCode
+    ensures { exit_status result < 2 }
+{
+    let text = match text_of(rt, alloc, path) {
+        Ok(text) => text,
+        Err(error) => return unread(rt, path, error),
+    };
+    let mut written = Vec::new(alloc);
+    let ended = write_trace_of(alloc, &text, &mut written);
+    end(rt, alloc, &text, ended, &written)
+}
+
+/// Prints the drawing of a part of a script.
+fn draw<R: Eprint + Files + Input + Print>(
+    rt: &R,
+    alloc: Global,
+    path: Option<&str>,
+    part: Part,
+) -> ExitCode
+    ensures { exit_status result < 2 }
+{
+    let text = match text_of(rt, alloc, path) {
+        Ok(text) => text,
+        Err(error) => return unread(rt, path, error),
+    };
+    let mut written = Vec::new(alloc);
+    let ended = write_drawing_of(alloc, &text, part, &mut written);
+    end(rt, alloc, &text, ended, &written)
 }
 
 /// Performs a task, or tells why the words name none, and answers the status to end with. A script ends in 0 where it ran to
@@ -138,6 +211,8 @@ pub fn perform<R: Eprint + Files + Input + Print>(
 {
     match task {
         Ok(Task::Run(path)) => run(rt, alloc, path),
+        Ok(Task::Trace(path)) => trace(rt, alloc, path),
+        Ok(Task::Draw { file, from, to }) => draw(rt, alloc, file, part_of(from, to)),
         Err(CommandError::Memory) => refused(rt, Refusal::Memory),
         Err(CommandError::WrongWords(error)) => tell(rt, &error),
     }

@@ -1,338 +1,195 @@
 -- What the parser of the command line makes of the words.
-use Rattle.std.proofs.Common.{◌≡◌, ◌∙◌, ◌⊎◌, ◌==◌, ℕ, Bool, cond, codes, true, false, zero, suc, refl, sym, ap, ap₂, subst, inl, inr, List, [], ◌∷◌, length, drop, Option, Some, None}
-use Rattle.std.specs.Prelude.{slice_get, encode_utf8}
-use Rattle.std.specs.List.{fold}
-use Rattle.std.specs.Option.{option_map_or}
-use Rattle.std.specs.Str.{bytes_eq, chars}
-use Rattle.std.proofs.lemmas.Bool.{cases_Bool, eqb-true}
-use Rattle.std.proofs.lemmas.Slice.Eq.{bytes_eq-Decides}
-use Rattle.clap.specs.Lexer.{long_of, short_of}
-use Rattle.clap.specs.Walk.{has_long, has_short}
-use Rattle.clap.specs.Simple.{help_rule}
-use Rattle.clap.specs.Walk.{Held, Names, Outcome, Row, Rule, Step, Text, Walk, after_flag, after_step, arg_by_index, arg_by_long, arg_by_short, bundle_met, bundle_step, finished, first_of, idle, long_or_other, nothing_held, plain, rows_after, settled, short_or_plain, stop_after, subcommand_met, subcommand_or_other, to_positional, trailing, value, walked}
-use Rattle.clap.specs.Simple.{App, Shape, built, entered, filled, names_of, subcommand_of, with_index}
+use Rattle.std.proofs.Common.{◌≡◌, ◌∙◌, ◌⊎◌, ◌||◌, Bool, cond, codes, true, false, refl, sym, ap, ap₂, subst, inl, inr, List, [], ◌∷◌, ◌++◌, drop, Option, Some, None, bytes_eq, fold, is_some, option_map, Box, box_value}
+use Rattle.std.proofs.lemmas.Bool.{cases_Bool}
 use Rattle.clap.specs.Kinds.{Kinds, or_else}
-use Rattle.clap.specs.Faults.{built_fault, bundle_fault, bundle_step_fault, check_fault, defaults_fault, entered_fault, fault_of, flag_word_fault, flags_fault, long_fault, other_fault, settle_fault, short_fault, step_fault, turn_fault, walk_fault}
-use Rattle.clap.specs.declared.error.kind.ErrorKind.TheVariants.{DisplayHelp, InvalidSubcommand, MissingRequiredArgument, TooManyValues, UnknownArgument}
-use Rattle.clap.proofs.OnLiterals.{clap_on_literals}
-use Rattle.clap.proofs.WalkLemmas.{first_value-rows, walk_stopped}
-use Rattle.clap.specs.Matches.{first_value, found_of, has_subcommand, subcommand_name_of}
-use Rattle.clap.specs.Simple.{subcommand_rows, subcommand_rows_of}
-use Rattle.clap.specs.Walk.{rows_of}
+use Rattle.clap.specs.Faults.{built_fault, check_fault, default_fault, defaults_fault, entered_fault, fault_of, given_default_fault, level_fault, settle_fault, turn_fault, walk_fault}
+use Rattle.clap.specs.Matches.{found_of, has_subcommand, subcommand_name_of}
+use Rattle.clap.specs.Simple.{App, Shape, built, entered, names_of, subcommand_of, subcommand_rows, subcommand_rows_of}
+use Rattle.clap.specs.Walk.{Held, Row, Rule, Text, Walk, after_step, finished, has_row, idle, is_empty, nothing_held, rows_after, rows_of, settled, stop_after, subcommand_met, subcommand_or_other, walked, with_default}
+use Rattle.clap.specs.declared.error.kind.ErrorKind.TheVariants.{InvalidSubcommand, UnknownArgument}
 use Rattle.clap.specs.declared.parser.matches.ArgMatches.{ArgMatches}
 use Rattle.clap.specs.declared.parser.matches.ArgMatches.TheViews.{out-ArgMatches, out-SubCommand}
 use Rattle.clap.specs.declared.parser.matches.SubCommand.{SubCommand}
-use Rattle.std.specs.Prelude.{Box, is_some, option_map}
-use Rattle.std.specs.Box.{box_value}
-use Rattle.stampctl_words.specs.CommandLine.{file_rule, file_shape, program}
-use Rattle.stampctl_words.specs.Words.{IsPlainCall, IsSubcommand, without_dashes}
+use Rattle.clap.proofs.OnLiterals.{clap_on_literals}
+use Rattle.clap.proofs.WalkLemmas.{walk_stopped}
+use Rattle.stampctl_words.specs.CommandLine.{program}
+use Rattle.stampctl_words.specs.Words.{Adds, Arguments, Call, Draws, IsFile, MayBeFile, Names, NoSubcommand, OnlyDashes, Run, Runs, Traces, no_arguments}
+use Rattle.stampctl_words.proofs.NamedLemmas.{reads}
+use Rattle.stampctl_words.proofs.RowLemmas.{Holds}
+use Rattle.stampctl_words.proofs.RuleLemmas.{leaf, refuses_long, refuses_short, rules}
+use Rattle.stampctl_words.proofs.SpellingLemmas.{same_in_some, same_word}
+use Rattle.stampctl_words.proofs.TakenLemmas.{takes_all}
+use Rattle.stampctl_words.proofs.TurnLemmas.{Refuses, Seen, SeenDashes, SeenJoined, SeenOption, SeenValue, faults, nil_or, or_else-nil, or_nil, seen, state}
 
-abbrev dashes : Text
-dashes = codes "--"
+-- ---- nothing is refused after the words of a subcommand
 
-or_nil : (x y : Kinds) → or_else x y ≡ [] → (x ≡ []) × (y ≡ [])
-or_nil [] y e = (refl, e)
-or_nil (k ∷ ks) y e = let bad : ◌≡◌ {A = Kinds} (k ∷ ks) [] = e in cc
+or_yes : (x : Bool) → (x || true) ≡ true
+or_yes true = refl
+or_yes false = refl
 
-nil_or : (x y : Kinds) → x ≡ [] → y ≡ [] → or_else x y ≡ []
-nil_or x y a b = rw a b
+no_default_fault : (rows : List Row) (a : Rule) → a.defaults ≡ [] → default_fault rows a ≡ []
+no_default_fault rows a none =
+    ap (λ (values : List Text). cond (has_row a.id rows || is_empty values) [] (given_default_fault a values)) none
+    ∙ ap (λ (b : Bool). cond b [] (given_default_fault a [])) (or_yes (has_row a.id rows))
 
--- ---- a command with no flag: a word is `--`, a value, or refused
+abbrev HaveNoDefaults : List Rule → Type 0
+HaveNoDefaults [] = Unit {0}
+HaveNoDefaults (a ∷ rest) = (a.defaults ≡ []) × HaveNoDefaults rest
 
-module _ (c : List Rule) (again : Bool) (no_long : (n : Text) (v : Option Text) (h : Held) → long_fault c again (arg_by_long c n) v h ≡ [] → ⊥)
-    (no_short : (x : ℕ) (rest : Text) (h : Held) (next : Held → Kinds) → short_fault c again (arg_by_short c x) rest h next ≡ [] → ⊥) where
-  bundle_value : (k : ℕ) (flags : Text) (h : Held) → flags_fault c again k flags 0 h ≡ [] → bundle_met c k flags 0 plain h ≡ (h, plain)
-  unfolding flags_fault bundle_met
-  bundle_value zero flags h e = refl
-  bundle_value (suc k) flags h e = go (slice_get (chars flags) 0) e
-    where
-      go : (o : Option ℕ) → bundle_step_fault c again o flags 0 h (flags_fault c again k) ≡ [] → bundle_step c o flags 0 plain h (bundle_met c k) ≡ (h, plain)
-      go None none = refl
-      go (Some x) none =
-          let rest = drop (length (encode_utf8 x)) flags in
-          absurd (no_short x rest h (flags_fault c again k rest 0) none)
+no_default_faults : (rest : List Rule) → HaveNoDefaults rest → (rows : List Row) → defaults_fault rows rest ≡ []
+unfolding defaults_fault
+no_default_faults [] none rows = refl
+no_default_faults (a ∷ rest) none rows = nil_or (default_fault rows a) _ (no_default_fault rows a none.0) (no_default_faults rest none.1 (with_default rows a))
 
-  module _ (rows : List Row) (pending : Option (Text × List Text)) (word : Text) where
-    abbrev here : Held
-    here = record { rows = rows; pending = pending; skip = 0 }
+no_defaults_fault : (has_options : Bool) (rows : List Row) → defaults_fault rows (rules has_options) ≡ []
+no_defaults_fault false rows = no_default_faults (rules false) (refl, (refl, tt)) rows
+no_defaults_fault true rows = no_default_faults (rules true) (refl, (refl, (refl, (refl, tt)))) rows
 
-    short_value : (s : Option Text) → option_map_or (λ flags. bundle_fault c again flags here) s [] ≡ [] → short_or_plain c idle word s here ≡ (here, value)
-    short_value None e = refl
-    short_value (Some flags) e = ap (λ (p : Held × Outcome). after_flag c idle word p.0 p.1) (bundle_value (length flags) flags here e)
+no_check_fault : (has_options : Bool) (name : Text) (rows : List Row) → check_fault (leaf has_options name) rows false ≡ []
+no_check_fault false name rows = refl
+no_check_fault true name rows = refl
 
-    word_value : (l : Option (Text × Option Text)) → flag_word_fault c again l word here ≡ [] → long_or_other c idle word l here ≡ (here, value)
-    word_value None e = short_value (short_of word) e
-    word_value (Some p) e = absurd (no_long p.0 p.1 here e)
+abbrev start : Walk
+start = state [] None idle 1 false
 
--- where a walk stands between two words that wait for nothing
-abbrev state : Option (Text × List Text) → ℕ → Bool → Walk
-state pending position is_trailing = record {
-  held = record { rows = []; pending = pending; skip = 0 };
-  waiting = idle;
-  position = position;
-  is_trailing = is_trailing;
-  stopped = None;
-}
-
-module _ (s : Shape) (names : Names) (no_long : (n : Text) (v : Option Text) (h : Held) → long_fault s.rules s.args_override_self (arg_by_long s.rules n) v h ≡ [] → ⊥)
-    (no_short : (x : ℕ) (rest : Text) (h : Held) (next : Held → Kinds) → short_fault s.rules s.args_override_self (arg_by_short s.rules x) rest h next ≡ [] → ⊥) where
-  module _ (pending : Option (Text × List Text)) (position : ℕ) (word : Text) (none_met : subcommand_met names idle word ≡ None) where
-    abbrev at : Walk
-    at = state pending position false
-
-    abbrev met_by : Bool → Held × Step
-    met_by b = cond b (at.held, trailing position) (long_or_other s.rules idle word (long_of word) at.held)
-
-    abbrev fault_by : Bool → Kinds
-    fault_by b = or_else (cond b [] (flag_word_fault s.rules s.args_override_self (long_of word) word at.held)) (step_fault s position (met_by b).0 (met_by b).1)
-
-    turn_is : turn_fault s names at word ≡ fault_by (bytes_eq word dashes)
-    turn_is = ap (λ (o : Option Text). or_else (other_fault s o word at.held) (step_fault s position (subcommand_or_other s.rules o idle position word at.held).0 (subcommand_or_other s.rules o idle position word at.held).1)) none_met
-
-    walked_is : walked s.rules names at word ≡ after_step s.rules word at (met_by (bytes_eq word dashes)).0 (met_by (bytes_eq word dashes)).1
-    unfolding walked
-    walked_is = ap (λ (o : Option Text). after_step s.rules word at (subcommand_or_other s.rules o idle position word at.held).0 (subcommand_or_other s.rules o idle position word at.held).1) none_met
-
-    -- a word that is not refused
-    turn_cases : turn_fault s names at word ≡ []
-        → ((bytes_eq word dashes ≡ true) × (walked s.rules names at word ≡ state pending position true))
-        ⊎ ((bytes_eq word dashes ≡ false) × (step_fault s position at.held value ≡ []) × (walked s.rules names at word ≡ to_positional s.rules (arg_by_index s.rules position) word at at.held))
-    turn_cases e = elim (cases_Bool (bytes_eq word dashes)) [
-      | inl same ↦ inl (same, walked_is ∙ ap (λ (b : Bool). after_step s.rules word at (met_by b).0 (met_by b).1) same)
-      | inr other ↦
-          let parts = or_nil _ _ (subst (λ (b : Bool). fault_by b ≡ []) other (sym turn_is ∙ e)) in
-          let is_value : ◌≡◌ {A = Held × Step} (long_or_other s.rules idle word (long_of word) at.held) (at.held, value) = word_value s.rules s.args_override_self no_long no_short [] pending word (long_of word) parts.0 in
-          inr (
-            other,
-            subst (λ (p : Held × Step). step_fault s position p.0 p.1 ≡ []) is_value parts.1,
-            walked_is ∙ ap (λ (b : Bool). after_step s.rules word at (met_by b).0 (met_by b).1) other
-                ∙ ap (λ (p : Held × Step). after_step s.rules word at p.0 p.1) is_value,
-          )
-    ]
-
-    -- a word that begins with no hyphen
-    plain_turn : bytes_eq word dashes ≡ false → long_of word ≡ None → short_of word ≡ None
-        → (turn_fault s names at word ≡ step_fault s position at.held value) × (walked s.rules names at word ≡ to_positional s.rules (arg_by_index s.rules position) word at at.held)
-    plain_turn other no_name no_flags =
-        let is_value : ◌≡◌ {A = Held × Step} (long_or_other s.rules idle word (long_of word) at.held) (at.held, value) =
-        ap (λ (l : Option (Text × Option Text)). long_or_other s.rules idle word l at.held) no_name ∙ ap (λ (f : Option Text). short_or_plain s.rules idle word f at.held) no_flags in
-        let no_fault : flag_word_fault s.rules s.args_override_self (long_of word) word at.held ≡ [] =
-        ap (λ (l : Option (Text × Option Text)). flag_word_fault s.rules s.args_override_self l word at.held) no_name
-        ∙ ap (λ (f : Option Text). option_map_or (λ flags. bundle_fault s.rules s.args_override_self flags at.held) f []) no_flags in (
-          turn_is ∙ ap fault_by other ∙ ap (λ (k : Kinds). or_else k (step_fault s position (met_by false).0 (met_by false).1)) no_fault
-              ∙ ap (λ (p : Held × Step). step_fault s position p.0 p.1) is_value,
-          walked_is ∙ ap (λ (b : Bool). after_step s.rules word at (met_by b).0 (met_by b).1) other
-              ∙ ap (λ (p : Held × Step). after_step s.rules word at p.0 p.1) is_value,
-        )
-
-skip_dashes : (word : Text) (rest : List Text) → bytes_eq word dashes ≡ true → without_dashes (word ∷ rest) ≡ rest
-skip_dashes word rest e = rw e refl
-
-keep_word : (word : Text) (rest : List Text) → bytes_eq word dashes ≡ false → without_dashes (word ∷ rest) ≡ word ∷ without_dashes rest
-keep_word word rest e = rw e refl
-
--- ---- a subcommand with one file
-
-abbrev rule : Rule
-rule = with_index 1 (filled file_rule)
-
--- the rule of `-h` and `--help`, which a walk answers with help
-abbrev help : Rule
-help = with_index 2 (filled help_rule)
-
-refuses_long : (c : List Rule) (n : Text) (v : Option Text) (h : Held) → long_fault c false (cond (has_long help n) (Some help) None) v h ≡ [] → ⊥
-refuses_long c n v h e = go (has_long help n) v e
-  where
-    go : (b : Bool) (w : Option Text) → long_fault c false (cond b (Some help) None) w h ≡ [] → ⊥
-    go false w none = let bad : ◌≡◌ {A = Kinds} (UnknownArgument ∷ []) [] = none in cc
-    go true (Some t) none = let bad : ◌≡◌ {A = Kinds} (TooManyValues ∷ []) [] = none in cc
-    go true None none = let bad : ◌≡◌ {A = Kinds} (DisplayHelp ∷ []) [] = (or_nil (settle_fault c false h) (DisplayHelp ∷ []) none).1 in cc
-
-refuses_short : (c : List Rule) (x : ℕ) (rest : Text) (h : Held) (next : Held → Kinds) → short_fault c false (cond (has_short help x) (Some help) None) rest h next ≡ [] → ⊥
-refuses_short c x rest h next e = go (has_short help x) e
-  where
-    go : (b : Bool) → short_fault c false (cond b (Some help) None) rest h next ≡ [] → ⊥
-    go false none = let bad : ◌≡◌ {A = Kinds} (UnknownArgument ∷ []) [] = none in cc
-    go true none =
-        let first = or_nil (or_else (settle_fault c false h) (DisplayHelp ∷ [])) _ none in
-        let bad : ◌≡◌ {A = Kinds} (DisplayHelp ∷ []) [] = (or_nil (settle_fault c false h) (DisplayHelp ∷ []) first.0).1 in
-        cc
-
-abbrev leaf : Text → Shape
-leaf name = record (file_shape name) {
-  rules = rule ∷ help ∷ [];
-  is_built = true;
-  disable_help_subcommand = true;
-}
-
-abbrev rest_fault : Text → Held → Kinds
-rest_fault name end = or_else (settle_fault (leaf name).rules false end)
-    (or_else (defaults_fault (settled (leaf name).rules end).rows (leaf name).rules) (check_fault (leaf name) (finished (leaf name).rules end) false))
-
--- what is refused from where the walk stands
-abbrev faults : Text → Walk → List Text → Kinds
-faults name w words = or_else (walk_fault (leaf name) [] w words) (rest_fault name (fold (walked (rule ∷ help ∷ []) []) w words).held)
-
-abbrev file_from : Walk → List Text → Option Text
-file_from w words = first_of (codes "file") (finished (rule ∷ help ∷ []) (fold (walked (rule ∷ help ∷ []) []) w words).held)
-
-faults_step : (name : Text) (w : Walk) (word : Text) (rest : List Text) → faults name w (word ∷ rest) ≡ []
-    → (turn_fault (leaf name) [] w word ≡ []) × (faults name (walked (rule ∷ help ∷ []) [] w word) rest ≡ [])
-unfolding walk_fault
-faults_step name w word rest e =
-    let outer = or_nil (or_else (turn_fault (leaf name) [] w word) (walk_fault (leaf name) [] (walked (rule ∷ help ∷ []) [] w word) rest)) _ e in
-    let inner = or_nil (turn_fault (leaf name) [] w word) _ outer.0 in
-    (inner.0, nil_or _ _ inner.1 outer.1)
-
-abbrev filled_with : Text → Option (Text × List Text)
-filled_with word = Some (codes "file", word ∷ [])
-
-at_end : (name file : Text) (words : List Text) → faults name (state (filled_with file) 2 true) words ≡ [] → (words ≡ []) × (file_from (state (filled_with file) 2 true) words ≡ Some file)
-unfolding clap_on_literals
-at_end name file [] e = (refl, refl)
-at_end name file (word ∷ rest) e =
-    let bad : ◌≡◌ {A = Kinds} (UnknownArgument ∷ []) [] = (faults_step name (state (filled_with file) 2 true) word rest e).0 in
-    cc
-
-after_file : (name file : Text) (words : List Text) → faults name (state (filled_with file) 2 false) words ≡ []
-    → (without_dashes words ≡ []) × (file_from (state (filled_with file) 2 false) words ≡ Some file)
-unfolding clap_on_literals
-after_file name file [] e = (refl, refl)
-after_file name file (word ∷ rest) e =
-    let step = faults_step name (state (filled_with file) 2 false) word rest e in
-    elim (turn_cases (leaf name) [] (refuses_long (rule ∷ help ∷ [])) (refuses_short (rule ∷ help ∷ [])) (filled_with file) 2 word refl step.0) [
-      | inl met ↦
-          let end = at_end name file rest (subst (λ (w : Walk). faults name w rest ≡ []) met.1 step.1) in
-          (skip_dashes word rest met.0 ∙ end.0, subst (λ (w : Walk). file_from w rest ≡ Some file) (sym met.1) end.1)
-      | inr met ↦ let bad : ◌≡◌ {A = Kinds} (UnknownArgument ∷ []) [] = met.1 in cc
-    ]
-
-after_dashes : (name : Text) (words : List Text) → faults name (state None 1 true) words ≡ []
-    → (file : Text) × (words ≡ file ∷ []) × (file_from (state None 1 true) words ≡ Some file)
-unfolding clap_on_literals
-after_dashes name [] e = let bad : ◌≡◌ {A = Kinds} (MissingRequiredArgument ∷ []) [] = e in cc
-after_dashes name (file ∷ rest) e =
-    let end = at_end name file rest (faults_step name (state None 1 true) file rest e).1 in
-    (file, ap (λ (ws : List Text). file ∷ ws) end.0, end.1)
-
--- the words after a subcommand's name are one file, but for one `--`
-one_file : (name : Text) (words : List Text) → faults name (state None 1 false) words ≡ []
-    → (file : Text) × (without_dashes words ≡ file ∷ []) × (file_from (state None 1 false) words ≡ Some file)
-unfolding clap_on_literals
-one_file name [] e = let bad : ◌≡◌ {A = Kinds} (MissingRequiredArgument ∷ []) [] = e in cc
-one_file name (word ∷ rest) e =
-    let step = faults_step name (state None 1 false) word rest e in
-    elim (turn_cases (leaf name) [] (refuses_long (rule ∷ help ∷ [])) (refuses_short (rule ∷ help ∷ [])) None 1 word refl step.0) [
-      | inl met ↦
-          let end = after_dashes name rest (subst (λ (w : Walk). faults name w rest ≡ []) met.1 step.1) in
-          (end.0, skip_dashes word rest met.0 ∙ end.1, subst (λ (w : Walk). file_from w rest ≡ Some end.0) (sym met.1) end.2)
-      | inr met ↦
-          let end = after_file name word rest (subst (λ (w : Walk). faults name w rest ≡ []) met.2 step.1) in
-          (word, keep_word word rest met.0 ∙ ap (λ (ws : List Text). word ∷ ws) end.0, subst (λ (w : Walk). file_from w rest ≡ Some word) (sym met.2) end.1)
-    ]
+level_is : (has_options : Bool) (name : Text) (words : List Text) → level_fault (leaf has_options name) [] nothing_held words false [] ≡ faults (leaf has_options name) start words
+level_is has_options name words =
+    let end : Held = (fold (walked (rules has_options) []) start words).held in
+    let last : or_else (defaults_fault (settled (rules has_options) end).rows (rules has_options)) (check_fault (leaf has_options name) (finished (rules has_options) end) false) ≡ [] =
+    nil_or _ _ (no_defaults_fault has_options (settled (rules has_options) end).rows) (no_check_fault has_options name (finished (rules has_options) end)) in
+    ap (λ (k : Kinds). or_else (walk_fault (leaf has_options name) [] start words) (or_else (settle_fault (rules has_options) false end) k)) last
+    ∙ ap (or_else (walk_fault (leaf has_options name) [] start words)) (or_else-nil (settle_fault (rules has_options) false end))
 
 -- ---- the program's words
 
 abbrev made : App
 made = built program
 
--- what the words after the program's name ask for
-abbrev pub Reads : List Text → Option (Text × List Row) → Type 0
-Reads words None = without_dashes words ≡ []
-Reads words (Some p) = IsSubcommand p.0 × (file : Text) × (first_of (codes "file") p.1 ≡ Some file) × (without_dashes words ≡ p.0 ∷ file ∷ [])
+abbrev top : Shape
+top = made.top
+
+abbrev pub IsNamed : Bool → Text → Type 0
+IsNamed false name = (name ≡ codes "run") ⊎ (name ≡ codes "trace")
+IsNamed true name = name ≡ codes "draw"
+
+-- the words name this subcommand, and add what the rows hold
+pub record Called (words : List Text) (name : Text) (rows : List Row) : Type 0 where
+  pub has_options : Bool
+  pub named : IsNamed has_options name
+  pub rest : List Text
+  pub is : words ≡ name ∷ rest
+  pub arguments : Arguments
+  pub adds : Adds MayBeFile has_options rest no_arguments arguments
+  pub holds : Holds rows arguments
+
+-- what the words ask for, where the parser enters a subcommand or none
+abbrev Reads : List Text → Option (Text × List Row) → Type 0
+Reads words None = Names MayBeFile words (Run None)
+Reads words (Some p) = Called words p.0 p.1
 
 abbrev read_from : List Text → Option (Text × List Row)
-read_from words = entered made (stop_after made.top.rules (names_of made) words)
+read_from words = entered made (stop_after top.rules (names_of made) words)
+
+stopped_none : (w : Walk) (name : Text) (before words : List Text) → walk_fault top (names_of made) (record w { stopped = Some (name, before) }) words ≡ []
+unfolding walked walk_fault
+stopped_none w name before [] = refl
+stopped_none w name before (word ∷ rest) = stopped_none w name (before ++ word ∷ []) rest
+
+no_top_check : (has : Bool) → check_fault top (finished top.rules nothing_held) has ≡ []
+no_top_check true = refl
+no_top_check false = refl
 
 -- a subcommand's name, and the words after it
-module _ (name : Text) (is : IsSubcommand name) (rest : List Text)
+module _ (has_options : Bool) (name : Text) (rest : List Text)
     (met : subcommand_met (names_of made) idle name ≡ Some name)
-    (no_dashes : without_dashes (name ∷ rest) ≡ name ∷ without_dashes rest)
-    (found : entered made (Some (name, rest)) ≡ Some (name, rows_after (rule ∷ help ∷ []) [] rest))
-    (below : entered_fault made (Some (name, rest)) ≡ faults name (state None 1 false) rest) where
-  stops : stop_after made.top.rules (names_of made) (name ∷ rest) ≡ Some (name, rest)
+    (turn : turn_fault top (names_of made) start name ≡ [])
+    (found : entered made (Some (name, rest)) ≡ Some (name, rows_after (rules has_options) [] rest))
+    (below : entered_fault made (Some (name, rest)) ≡ level_fault (leaf has_options name) [] nothing_held rest false []) where
+  first_walked : walked top.rules (names_of made) start name ≡ record start { stopped = Some (name, []) }
   unfolding walked
-  stops =
-      let first : walked made.top.rules (names_of made) (state None 1 false) name ≡ record (state None 1 false) { stopped = Some (name, []) } =
-      ap (λ (o : Option Text). after_step made.top.rules name (state None 1 false) (subcommand_or_other made.top.rules o idle 1 name nothing_held).0 (subcommand_or_other made.top.rules o idle 1 name nothing_held).1) met in
-      ap (λ (w : Walk). (fold (walked made.top.rules (names_of made)) w rest).stopped) first
-      ∙ sym (ap (λ (w : Walk). w.stopped) (walk_stopped made.top.rules (names_of made) (state None 1 false) name [] rest))
+  first_walked =
+      ap (λ (o : Option Text). after_step top.rules name start (subcommand_or_other top.rules o idle 1 name nothing_held).0 (subcommand_or_other top.rules o idle 1 name nothing_held).1) met
 
-  named : built_fault made nothing_held (name ∷ rest) ≡ [] → Reads (name ∷ rest) (read_from (name ∷ rest))
-  named e =
-      let inner = or_nil _ _ (or_nil (walk_fault made.top (names_of made) (state None 1 false) (name ∷ rest)) _ e).1 in
-      let file = one_file name rest (sym below ∙ ap (entered_fault made) (sym stops) ∙ inner.0) in
-      subst (λ (o : Option (Text × List Row)). Reads (name ∷ rest) o) (sym (ap (entered made) stops ∙ found))
-      (is, file.0, file.2, no_dashes ∙ ap (λ (ws : List Text). name ∷ ws) file.1)
+  ends : fold (walked top.rules (names_of made)) start (name ∷ rest) ≡ record start { stopped = Some (name, rest) }
+  ends =
+      ap (λ (w : Walk). fold (walked top.rules (names_of made)) w rest) first_walked
+      ∙ sym (walk_stopped top.rules (names_of made) start name [] rest)
 
-same_word : (xs ys : Text) → bytes_eq xs ys ≡ true → xs ≡ ys
-same_word xs ys e = (bytes_eq-Decides xs ys).0 e
+  stops : stop_after top.rules (names_of made) (name ∷ rest) ≡ Some (name, rest)
+  stops = ap (λ (w : Walk). w.stopped) ends
+
+  name_reads : IsNamed has_options name → built_fault made nothing_held (name ∷ rest) ≡ [] → Reads (name ∷ rest) (read_from (name ∷ rest))
+  name_reads is e =
+      let inner = or_nil (entered_fault made (stop_after top.rules (names_of made) (name ∷ rest))) _ (or_nil (walk_fault top (names_of made) start (name ∷ rest)) _ e).1 in
+      let read = reads has_options name rest (sym (level_is has_options name rest) ∙ sym below ∙ ap (entered_fault made) (sym stops) ∙ inner.0) in
+      subst (Reads (name ∷ rest)) (sym (ap (entered made) stops ∙ found))
+      (record { has_options = has_options; named = is; rest = rest; is = refl; arguments = read.0; adds = read.1; holds = read.2 })
+
+  name_taken : faults (leaf has_options name) start rest ≡ [] → built_fault made nothing_held (name ∷ rest) ≡ []
+  unfolding walk_fault defaults_fault
+  name_taken e =
+      let passed : walk_fault top (names_of made) start (name ∷ rest) ≡ [] =
+      nil_or _ _ turn (subst (λ (w : Walk). walk_fault top (names_of made) w rest ≡ []) (sym first_walked) (stopped_none start name [] rest)) in
+      let inner : entered_fault made (stop_after top.rules (names_of made) (name ∷ rest)) ≡ [] = ap (entered_fault made) stops ∙ below ∙ level_is has_options name rest ∙ e in
+      let last = subst (λ (w : Walk). or_else (settle_fault top.rules top.args_override_self w.held) (or_else (defaults_fault (settled top.rules w.held).rows top.rules) (check_fault top (finished top.rules w.held) (is_some (entered made w.stopped)))) ≡ [])
+      (sym ends) (no_top_check (is_some (entered made (Some (name, rest))))) in
+      nil_or _ _ passed (nil_or _ _ inner last)
 
 -- a first word that is no subcommand: `--` alone
 unnamed : (word : Text) (rest : List Text) → subcommand_met (names_of made) idle word ≡ None
     → built_fault made nothing_held (word ∷ rest) ≡ [] → Reads (word ∷ rest) (read_from (word ∷ rest))
 unfolding clap_on_literals
 unnamed word rest none_met e =
-    let turns = or_nil (turn_fault made.top (names_of made) (state None 1 false) word) (walk_fault made.top (names_of made) (walked made.top.rules (names_of made) (state None 1 false) word) rest)
-    (or_nil (walk_fault made.top (names_of made) (state None 1 false) (word ∷ rest)) _ e).0 in
-    elim (turn_cases made.top (names_of made) (refuses_long made.top.rules) (refuses_short made.top.rules) None 1 word none_met turns.0) [
-      | inl met ↦ alone rest met.0 met.1 (subst (λ (w : Walk). walk_fault made.top (names_of made) w rest ≡ []) met.1 turns.1)
-      | inr met ↦ let bad : ◌≡◌ {A = Kinds} (UnknownArgument ∷ InvalidSubcommand ∷ []) [] = met.1 in cc
-    ]
+    let turns = or_nil (turn_fault top (names_of made) start word) (walk_fault top (names_of made) (walked top.rules (names_of made) start word) rest)
+    (or_nil (walk_fault top (names_of made) start (word ∷ rest)) _ e).0 in
+    go (walked top.rules (names_of made) start word)
+    (seen top (names_of made) [] None idle 1 word none_met (λ (id : Text). ⊥) (λ id. Refuses (refuses_long top.rules id)) (refuses_short top.rules) turns.0) turns.1
   where
-    alone : (more : List Text) → bytes_eq word dashes ≡ true
-        → walked made.top.rules (names_of made) (state None 1 false) word ≡ state None 1 true
-        → walk_fault made.top (names_of made) (state None 1 true) more ≡ [] → Reads (word ∷ more) (read_from (word ∷ more))
-    alone [] is_dashes moved h =
-        subst (λ (w : Walk). Reads (word ∷ []) (entered made w.stopped)) (sym moved) (skip_dashes word [] is_dashes)
-    alone (next ∷ more) is_dashes moved h =
-        let bad : ◌≡◌ {A = Kinds} (UnknownArgument ∷ InvalidSubcommand ∷ []) [] = (or_nil (turn_fault made.top (names_of made) (state None 1 true) next) (walk_fault made.top (names_of made) (walked made.top.rules (names_of made) (state None 1 true) next) more) h).0 in
+    alone : (more : List Text) → walk_fault top (names_of made) (state [] None idle 1 true) more ≡ []
+        → Reads (codes "--" ∷ more) (entered made (fold (walked top.rules (names_of made)) (state [] None idle 1 true) more).stopped)
+    alone [] h = OnlyDashes
+    alone (next ∷ more) h =
+        let bad : ◌≡◌ {A = Kinds} (UnknownArgument ∷ InvalidSubcommand ∷ []) [] =
+        (or_nil (turn_fault top (names_of made) (state [] None idle 1 true) next) (walk_fault top (names_of made) (walked top.rules (names_of made) (state [] None idle 1 true) next) more) h).0 in
         cc
+
+    go : (w : Walk) → Seen top (λ (id : Text). ⊥) [] None idle 1 word w → walk_fault top (names_of made) w rest ≡ []
+        → Reads (word ∷ rest) (entered made (fold (walked top.rules (names_of made)) w rest).stopped)
+    go w (SeenDashes is moved) h =
+        subst (λ (t : Text). Reads (t ∷ rest) (entered made (fold (walked top.rules (names_of made)) w rest).stopped)) (sym is)
+        (subst (λ (v : Walk). Reads (codes "--" ∷ rest) (entered made (fold (walked top.rules (names_of made)) v rest).stopped)) (sym moved)
+        (alone rest (subst (λ (v : Walk). walk_fault top (names_of made) v rest ≡ []) moved h)))
+    go w (SeenValue is fits moved) h = let bad : ◌≡◌ {A = Kinds} (UnknownArgument ∷ InvalidSubcommand ∷ []) [] = fits in cc
+    go w (SeenOption id known is settles moved) h = absurd known
+    go w (SeenJoined id v known is settles fits moved) h = absurd known
 
 -- where the parser takes the words, what it reads is what they ask for
 pub takes_named : (words : List Text) → built_fault made nothing_held words ≡ [] → Reads words (read_from words)
-takes_named [] e = refl
+takes_named [] e = NoSubcommand
 takes_named (word ∷ rest) e = elim (cases_Bool (bytes_eq (codes "run") word)) [
   | inl same ↦ subst (λ (w : Text). built_fault made nothing_held (w ∷ rest) ≡ [] → Reads (w ∷ rest) (read_from (w ∷ rest))) (same_word (codes "run") word same)
-      (named (codes "run") refl rest refl refl refl refl) e
-  | inr no_run ↦ unnamed word rest (rw no_run refl) e
+      (name_reads false (codes "run") rest refl refl refl refl (inl refl)) e
+  | inr no_run ↦ elim (cases_Bool (bytes_eq (codes "trace") word)) [
+    | inl same ↦ subst (λ (w : Text). built_fault made nothing_held (w ∷ rest) ≡ [] → Reads (w ∷ rest) (read_from (w ∷ rest))) (same_word (codes "trace") word same)
+        (name_reads false (codes "trace") rest refl refl refl refl (inr refl)) e
+    | inr no_trace ↦ elim (cases_Bool (bytes_eq (codes "draw") word)) [
+      | inl same ↦ subst (λ (w : Text). built_fault made nothing_held (w ∷ rest) ≡ [] → Reads (w ∷ rest) (read_from (w ∷ rest))) (same_word (codes "draw") word same)
+          (name_reads true (codes "draw") rest refl refl refl refl refl) e
+      | inr no_draw ↦ unnamed word rest (rw (no_run, no_trace, no_draw) refl) e
+    ]
+  ]
 ]
 
--- ---- a subcommand and a file that does not begin with a hyphen are taken
-
-one_value : (name file : Text) → bytes_eq file dashes ≡ false → long_of file ≡ None → short_of file ≡ None → faults name (state None 1 false) (file ∷ []) ≡ []
+-- and it takes the words that name a call
+pub takes_call : (words : List Text) (call : Call) → Names IsFile words call → built_fault made nothing_held words ≡ []
 unfolding clap_on_literals
-one_value name file other no_name no_flags =
-    let turn = plain_turn (leaf name) [] (refuses_long (rule ∷ help ∷ [])) (refuses_short (rule ∷ help ∷ [])) None 1 file refl other no_name no_flags in
-    nil_or _ _ (nil_or _ _ turn.0 refl) (subst (λ (w : Walk). rest_fault name w.held ≡ []) (sym turn.1) refl)
-
-no_hyphen : (file : Text) → (slice_get file 0 ≡ Some 45 → ⊥) → (bytes_eq file dashes ≡ false) × (long_of file ≡ None) × (short_of file ≡ None)
-no_hyphen [] other = (refl, refl, refl)
-no_hyphen (x ∷ xs) other =
-    let not_first : (x == 45) ≡ false = not_hyphen x (λ e. other (ap (λ (y : ℕ). Some y) e)) in
-    (rw not_first refl, rw not_first refl, rw not_first refl)
-  where
-    not_hyphen : (y : ℕ) → (y ≡ 45 → ⊥) → (y == 45) ≡ false
-    not_hyphen y h = elim (cases_Bool (y == 45)) [ inl same ↦ absurd (h (eqb-true y 45 same)) | inr e ↦ e ]
-
-below_top : (name : Text) (file : Text) → IsSubcommand name → faults name (state None 1 false) (file ∷ []) ≡ [] → built_fault made nothing_held (name ∷ file ∷ []) ≡ []
-unfolding walked walk_fault defaults_fault
-below_top name file is h =
-    subst (λ (n : Text). faults n (state None 1 false) (file ∷ []) ≡ [] → built_fault made nothing_held (n ∷ file ∷ []) ≡ []) (sym is) (λ k. nil_or _ _ k refl) h
-
-pub takes_plain : (words : List Text) → IsPlainCall words → built_fault made nothing_held words ≡ []
-unfolding clap_on_literals
-takes_plain [] h = refl
-takes_plain (name ∷ []) h = absurd h
-takes_plain (name ∷ file ∷ []) h =
-    let plain_word = no_hyphen file h.1 in
-    below_top name file h.0 (one_value name file plain_word.0 plain_word.1 plain_word.2)
-takes_plain (name ∷ file ∷ next ∷ more) h = absurd h
+takes_call words call NoSubcommand = refl
+takes_call words call OnlyDashes = refl
+takes_call words call (Runs rest a adds) = name_taken false (codes "run") rest refl refl refl refl (takes_all false (codes "run") rest a adds)
+takes_call words call (Traces rest a adds) = name_taken false (codes "trace") rest refl refl refl refl (takes_all false (codes "trace") rest a adds)
+takes_call words call (Draws rest a adds) = name_taken true (codes "draw") rest refl refl refl refl (takes_all true (codes "draw") rest a adds)
 
 -- ---- the matches of a parse
-
-pub same_in_some : {X : Type 0} (x y : X) → Some x ≡ Some y → x ≡ y
-same_in_some x y e = cc
 
 module _ {Z : Type 0} where
   entered_some : (o : Option (Box SubCommand Z)) (name : Text) (rows : List Row)
@@ -348,15 +205,13 @@ module _ {Z : Type 0} where
 
 -- a parse that met no subcommand
 pub no_task : (words : List Text) (m : ArgMatches) → fault_of program words ≡ [] → subcommand_rows_of m ≡ subcommand_of program words
-    → false ≡ has_subcommand m → [] ≡ without_dashes (drop 1 words)
+    → false ≡ has_subcommand m → Names MayBeFile (drop 1 words) (Run None)
 no_task words m none same met =
-    sym (subst (λ (o : Option (Text × List Row)). Reads (drop 1 words) o) (sym same ∙ entered_none (out-ArgMatches m).subcommand met) (takes_named (drop 1 words) none))
+    subst (Reads (drop 1 words)) (sym same ∙ entered_none (out-ArgMatches m).subcommand met) (takes_named (drop 1 words) none)
 
 -- a parse that met one
 pub one_task : (words : List Text) (m inner : ArgMatches) (name : Text) → fault_of program words ≡ [] → subcommand_rows_of m ≡ subcommand_of program words
     → Some name ≡ subcommand_name_of m → Some (rows_of (found_of inner)) ≡ option_map (λ p. p.1) (subcommand_rows_of m)
-    → IsSubcommand name × (file : Text) × (first_value (found_of inner) (codes "file") ≡ Some file) × (without_dashes (drop 1 words) ≡ name ∷ file ∷ [])
+    → Called (drop 1 words) name (rows_of (found_of inner))
 one_task words m inner name none same called rows =
-    let found : Reads (drop 1 words) (Some (name, rows_of (found_of inner))) =
-    subst (λ (o : Option (Text × List Row)). Reads (drop 1 words) o) (sym same ∙ entered_some (out-ArgMatches m).subcommand name (rows_of (found_of inner)) called rows) (takes_named (drop 1 words) none) in
-    (found.0, found.1, first_value-rows (found_of inner) (codes "file") ∙ found.2, found.3)
+    subst (Reads (drop 1 words)) (sym same ∙ entered_some (out-ArgMatches m).subcommand name (rows_of (found_of inner)) called rows) (takes_named (drop 1 words) none)

@@ -1,31 +1,66 @@
 -- What the words after the program's name ask for.
-use Rattle.std.specs.Prelude.{◌≡◌, ◌≢◌, ℕ, List, [], ◌∷◌, Some, None, String, codes, map, slice_get, string_bytes}
-use Rattle.std.specs.Prelude.{if◌then◌else◌}
-use Rattle.std.specs.Str.{bytes_eq}
+use Rattle.std.specs.Prelude.{◌≡◌, ◌≢◌, ◌⊎◌, ◌<◌, ◌^◌, ℕ, Bool, true, false, List, [], ◌∷◌, ◌++◌, Option, Some, None, String, codes, map, option_map, slice_get, string_bytes, take}
+use Rattle.std.specs.Str.Parse.{IsNumeral, digits_value, without_leading_plus}
 use Rattle.std.specs.declared.alloc.Global.{Global}
 use Rattle.stampctl_words.specs.declared.named.Task.{Task}
-use Rattle.stampctl_words.specs.declared.named.Task.TheVariants.{Run}
+use Rattle.stampctl_words.specs.declared.named.Task.TheVariants as task
 
 -- what the strings hold
 abbrev pub texts : List (String Global) → List (List ℕ)
 texts = map string_bytes
 
--- the words that call for a task
-abbrev pub call_of : Task → List (List ℕ)
-call_of (Run None) = []
-call_of (Run (Some file)) = codes "run" ∷ file.now ∷ []
+-- what may stand after a subcommand's name: a file, and the numbers of the first and of the last event that is drawn
+pub record Arguments : Type 0 where
+  pub file : Option (List ℕ)
+  pub from : Option ℕ
+  pub to : Option ℕ
 
--- the words without the first `--`, after which a word with a hyphen is a file
-abbrev pub without_dashes : List (List ℕ) → List (List ℕ)
-without_dashes [] = []
-without_dashes (word ∷ words) =
-    if bytes_eq word (codes "--") then words else word ∷ without_dashes words
+abbrev pub no_arguments : Arguments
+no_arguments = record { file = None; from = None; to = None }
 
-abbrev pub IsSubcommand : List ℕ → Type 0
-IsSubcommand name = name ≡ codes "run"
+-- a subcommand with its arguments
+pub data Call : Type 0 where
+  Run : Option (List ℕ) → Call
+  Trace : Option (List ℕ) → Call
+  Draw : Arguments → Call
 
--- no word, or a subcommand and a file that does not begin with a hyphen (45)
-abbrev pub IsPlainCall : List (List ℕ) → Type 0
-IsPlainCall [] = Unit {0}
-IsPlainCall (name ∷ file ∷ []) = IsSubcommand name × (slice_get file 0 ≢ Some 45)
-IsPlainCall _ = ⊥
+abbrev pub call_of : Task → Call
+call_of (task.Run file) = Run (option_map (λ f. f.now) file)
+call_of (task.Trace file) = Trace (option_map (λ f. f.now) file)
+call_of (task.Draw file from to) = Draw (record { file = option_map (λ f. f.now) file; from = from; to = to })
+
+-- a word that may be a file: one that begins with two hyphens is an option
+abbrev pub MayBeFile : List ℕ → Type 0
+MayBeFile word = take 2 word ≢ codes "--"
+
+-- a word that is a file: it does not begin with a hyphen (45), or it is a hyphen
+abbrev pub IsFile : List ℕ → Type 0
+IsFile word = (slice_get word 0 ≢ Some 45) ⊎ (word ≡ codes "-")
+
+-- the word is the number n in decimal digits, after a plus or without one
+abbrev pub IsNumber : List ℕ → ℕ → Type 0
+IsNumber word n = IsNumeral 10 (without_leading_plus word) × (digits_value 10 (without_leading_plus word) ≡ n) × (n < 2 ^ 64)
+
+-- The words add to the arguments a, and make them b. They are, in any order and each at most once, a file, which is one of `Files`, and if the
+-- subcommand has options `--from N` and `--to M`, or `--from=N` and `--to=M`. After `--` stands a file or nothing, whatever it begins with.
+pub data Adds (Files : List ℕ → Type 0) (has_options : Bool) : List (List ℕ) → (a b : Arguments) → Type 0 where
+  NoWords : (a : Arguments) → Adds Files has_options [] a a
+  File : (a b : Arguments) (word : List ℕ) (rest : List (List ℕ)) (first : a.file ≡ None) (is : Files word) (more : Adds Files has_options rest (record a { file = Some word }) b) → Adds Files has_options (word ∷ rest) a b
+  From : (a b : Arguments) (word : List ℕ) (n : ℕ) (rest : List (List ℕ)) (may : has_options ≡ true) (first : a.from ≡ None) (is : IsNumber word n) (more : Adds Files has_options rest (record a { from = Some n }) b) →
+      Adds Files has_options (codes "--from" ∷ word ∷ rest) a b
+  FromJoined : (a b : Arguments) (word : List ℕ) (n : ℕ) (rest : List (List ℕ)) (may : has_options ≡ true) (first : a.from ≡ None) (is : IsNumber word n) (more : Adds Files has_options rest (record a { from = Some n }) b) →
+      Adds Files has_options ((codes "--from=" ++ word) ∷ rest) a b
+  To : (a b : Arguments) (word : List ℕ) (n : ℕ) (rest : List (List ℕ)) (may : has_options ≡ true) (first : a.to ≡ None) (is : IsNumber word n) (more : Adds Files has_options rest (record a { to = Some n }) b) →
+      Adds Files has_options (codes "--to" ∷ word ∷ rest) a b
+  ToJoined : (a b : Arguments) (word : List ℕ) (n : ℕ) (rest : List (List ℕ)) (may : has_options ≡ true) (first : a.to ≡ None) (is : IsNumber word n) (more : Adds Files has_options rest (record a { to = Some n }) b) →
+      Adds Files has_options ((codes "--to=" ++ word) ∷ rest) a b
+  Dashes : (a : Arguments) → Adds Files has_options (codes "--" ∷ []) a a
+  DashesFile : (a : Arguments) (word : List ℕ) (first : a.file ≡ None) → Adds Files has_options (codes "--" ∷ word ∷ []) a (record a { file = Some word })
+
+-- the words name a subcommand with its arguments; where they name none, the script on standard input is run
+pub data Names (Files : List ℕ → Type 0) : List (List ℕ) → Call → Type 0 where
+  NoSubcommand : Names Files [] (Run None)
+  OnlyDashes : Names Files (codes "--" ∷ []) (Run None)
+  Runs : (words : List (List ℕ)) (a : Arguments) (by : Adds Files false words no_arguments a) → Names Files (codes "run" ∷ words) (Run a.file)
+  Traces : (words : List (List ℕ)) (a : Arguments) (by : Adds Files false words no_arguments a) → Names Files (codes "trace" ∷ words) (Trace a.file)
+  Draws : (words : List (List ℕ)) (a : Arguments) (by : Adds Files true words no_arguments a) → Names Files (codes "draw" ∷ words) (Draw a)

@@ -1,28 +1,38 @@
 //! The words of the command line.
 ghost use Rattle.std.specs.Prelude.{◌≡◌, IfErr, IfOk, drop, false};
-ghost use Rattle.clap.specs.Words.{app_of, kind_of, shape_of};
+ghost use Rattle.clap.specs.Words.{app_of, kind_of, rule_of, shape_of};
 ghost use Rattle.clap.specs.declared.builder.command.Command.TheViews.{out-Command};
-ghost use Rattle.stampctl_words.specs.CommandLine.{file_shape, program};
-ghost use Rattle.stampctl_words.specs.Words.{IsPlainCall, call_of, texts, without_dashes};
+ghost use Rattle.stampctl_words.specs.CommandLine.{drawing_shape, event_rule, file_shape, program};
+ghost use Rattle.stampctl_words.specs.Words.{Call, IsFile, MayBeFile, Names, call_of, texts};
 
-use clap::Arg;
 use clap::error::ErrorKind;
+use clap::{Arg, value_parser};
 use std::alloc::{AllocError, Global};
 use thiserror::Error as ThisError;
 
-/// What the program is asked to do, with the file that the words name.
+/// What the program is asked to do with a script: that of a file, or without one the script on standard input.
 #[derive(Clone, Copy)]
 pub enum Task<'a> {
-    /// Runs a script; without a file, the one on standard input.
+    /// Runs it and prints what is observed.
     Run(Option<&'a str>),
+    /// Runs it and prints each event, the packets that it sent and what is observed.
+    Trace(Option<&'a str>),
+    /// Runs it and draws the events from one to another, both included. The first event is 1; without the one bound the drawing
+    /// begins there, without the other it goes on to the last.
+    Draw {
+        file: Option<&'a str>,
+        from: Option<u64>,
+        to: Option<u64>,
+    },
 }
 
 /// What the help ends with.
 const AFTER_HELP: &str = "\
+Without a command, the script on standard input is run.
 The lines of a script are those of docs/FORMATS.md, and crates/tests_rows/data has some scripts.
 Status 0: the script ran to its end. 1: it was refused, as the last line says. 2: wrong words.";
 
-/// A subcommand with one file.
+/// A subcommand with one file, which may be left out.
 fn with_file<'a>(
     alloc: Global,
     name: &'a str,
@@ -31,23 +41,63 @@ fn with_file<'a>(
     ensures shape { IfOk result (λ c. shape_of c ≡ file_shape name.entry.now) }
     ensures local { IfOk result (λ c. (out-Command c).has_globals ≡ false) }
 {
-    let file = Arg::new(alloc, "file")
-        .value_name("FILE")
-        .required(true)
-        .help("The script: a setup, and events, one a line");
+    let file = Arg::new(alloc, "file").value_name("FILE").help(
+        "The script: a setup, and events, one a line; by default standard input",
+    );
     clap::Command::new(alloc, name).about(about).arg(file)
+}
+
+/// An option whose value is the number of an event.
+fn event_option<'a>(alloc: Global, name: &'a str, value: &'a str, help: &'a str) -> Arg<'a>
+    ensures rule { rule_of result ≡ event_rule name.entry.now }
+    ensures local { result.global ≡ false }
+{
+    Arg::new(alloc, name)
+        .long(name)
+        .value_name(value)
+        .value_parser(value_parser!(u64))
+        .help(help)
+}
+
+/// The subcommand that draws.
+fn drawing<'a>(alloc: Global) -> Result<clap::Command<'a>, AllocError>
+    ensures shape { IfOk result (λ c. shape_of c ≡ drawing_shape) }
+    ensures local { IfOk result (λ c. (out-Command c).has_globals ≡ false) }
+{
+    let from = event_option(
+        alloc,
+        "from",
+        "N",
+        "The first event that is drawn, counted from 1",
+    );
+    let to = event_option(alloc, "to", "M", "The last event that is drawn");
+    with_file(
+        alloc,
+        "draw",
+        "Runs a script and writes a drawing of its events and packets, as SVG",
+    )?
+    .arg(from)?
+    .arg(to)
 }
 
 /// The program's command line.
 fn command_line<'a>(alloc: Global) -> Result<clap::Command<'a>, AllocError>
     ensures { IfOk result (λ c. app_of c ≡ program) }
 {
-    let script = with_file(alloc, "run", "Runs a script and prints what is observed")?;
+    let run = with_file(alloc, "run", "Runs a script and prints what is observed")?;
+    let trace = with_file(
+        alloc,
+        "trace",
+        "Runs a script and prints each event, the packets that it sent and what is observed",
+    )?;
+    let draw = drawing(alloc)?;
     clap::Command::new(alloc, "stampctl")
         .about("Runs a script, by default the one on standard input")
         .after_help(AFTER_HELP)
         .disable_help_subcommand(true)
-        .subcommand(script)
+        .subcommand(run)?
+        .subcommand(trace)?
+        .subcommand(draw)
 }
 
 /// Why the words were not read.
@@ -86,18 +136,21 @@ impl From<clap::Error> for CommandError {
 
 /// Reads the words of a command line, of which the first is the program's name.
 pub fn command<'a>(alloc: Global, words: &'a [String]) -> Result<Task<'a>, CommandError>
-    // What is read is spelled so, but for one `--`.
-    ensures named { IfOk result (λ task. call_of task ≡ without_dashes (drop 1 (texts words.entry.now))) }
-    // What is spelled plainly is read, unless memory runs out.
-    ensures taken { IfErr result (λ e. IsPlainCall (drop 1 (texts words.entry.now))
+    // The task is the one that the words name.
+    ensures named { IfOk result (λ task. Names MayBeFile (drop 1 (texts words.entry.now)) (call_of task)) }
+    // Words that name one are read, unless memory runs out.
+    ensures taken { IfErr result (λ e. (call : Call) → Names IsFile (drop 1 (texts words.entry.now)) call
         → e ≡ CommandError.Memory) }
 {
     let matches = command_line(alloc)?.try_get_matches_from(words)?;
     match matches.subcommand() {
         None => Ok(Task::Run(None)),
-        Some((_run, inner)) => {
-            let file = inner.get_str("file").unwrap();
-            Ok(Task::Run(Some(file)))
-        }
+        Some(("trace", given)) => Ok(Task::Trace(given.get_str("file"))),
+        Some(("draw", given)) => Ok(Task::Draw {
+            file: given.get_str("file"),
+            from: given.get_one("from"),
+            to: given.get_one("to"),
+        }),
+        Some((_run, given)) => Ok(Task::Run(given.get_str("file"))),
     }
 }

@@ -6,7 +6,7 @@ ghost use Rattle.model_partition.specs.Honest.{Honest};
 ghost use Rattle.wire.specs.Refusal.{number_of};
 ghost use Rattle.world_nodes.specs.Seen.{seen_of};
 ghost use Rattle.world_streams.specs.Nodes.{running_at};
-ghost use Rattle.world.specs.Cluster.{ClusterSimulates, ClusterMirrors, IsUnmergedRun, refusal_of};
+ghost use Rattle.world.specs.Cluster.{ClusterSimulates, ClusterMirrors, IsRun, IsUnmergedRun, refusal_of};
 
 use crate::cluster::Cluster;
 use disk::MemDisk;
@@ -80,7 +80,8 @@ impl Run {
 
     /// All packets that were sent, in order: their places, from 0, are their numbers.
     pub fn sent(&self) -> &[Packet]
-        ensures { result.now ≡ self.now.stream_layer.post }
+        ensures sent { result.now ≡ self.now.stream_layer.post }
+        ensures led { IsRun self.now }
     {
         self.cluster.sent()
     }

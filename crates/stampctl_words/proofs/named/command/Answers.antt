@@ -1,12 +1,15 @@
-use Rattle.std.proofs.Common.{◌≡◌, ◌∙◌, IfErr, IsErrAnd, Result, Ok, Err, drop, ap, refl, sym, codes, List, Option, Some, None, [], ◌∷◌, option_map, inl, inr}
-use Rattle.std.specs.Prelude.{IsSome}
-use Rattle.clap.specs.Words.{App, Text, kind_of, is_simple, subcommand_of}
+use Rattle.std.proofs.Common.{◌≡◌, ◌∙◌, IfErr, IsErrAnd, Result, Ok, Err, drop, ap, sym, subst, codes, List, [], ◌∷◌, inl, inr}
+use Rattle.std.specs.Str.Parse.{ExplainsUnsignedError, HasUnsignedDigitsIfOk, ParsesUnsigned}
+use Rattle.clap.specs.Words.{App, Row, Text, found_of, is_simple, kind_of, one_of, rows_of, subcommand_of}
 use Rattle.clap.specs.Faults.{fault_of, is_simple_and_free}
 use Rattle.clap.specs.Kinds.{HasKind, Kinds}
 use Rattle.clap.specs.declared.error.Error.{Error}
 use Rattle.clap.specs.declared.error.kind.ErrorKind.TheVariants.{OutOfMemory}
+use Rattle.clap.specs.declared.parser.matches.ArgMatches.{ArgMatches}
+use Rattle.clap.proofs.WalkLemmas.{first_value-rows, one_text-rows}
 use Rattle.stampctl_words.specs.Words.{texts}
-use Rattle.stampctl_words.proofs.WordLemmas.{no_task, one_task, takes_plain, same_in_some}
+use Rattle.stampctl_words.proofs.CallLemmas.{called_draw, called_run, called_trace, number_is}
+use Rattle.stampctl_words.proofs.WordLemmas.{Called, no_task, one_task, takes_call}
 use Rattle.stampctl_words.proofs.named.command.Goals as goal
 
 err_as : {T E : Type 0} (r : Result T E) (P Q : E → Type 0) → ((e : E) → P e → Q e) → IsErrAnd r P → IfErr r Q
@@ -22,7 +25,7 @@ returns-in_err-matches-clause-taken c =
     let words : List Text = texts c.args.words.now in
     let kinds = c.in_err-matches.ensures.kinds (ap is_simple_and_free c.in_ok-command_line.ensures) in
     err_as c.from_residual-in_err-matches.result _ _
-    (λ e named plain. named (only_memory _ c.in_err-matches.field-0.0 (ap (λ (a : App). fault_of a words) c.in_ok-command_line.ensures ∙ takes_plain (drop 1 words) plain) kinds))
+    (λ e named call names. named (only_memory _ c.in_err-matches.field-0.0 (ap (λ (a : App). fault_of a words) c.in_ok-command_line.ensures ∙ takes_call (drop 1 words) call names) kinds))
     c.from_residual-in_err-matches.ensures.1
 
 pub returns-in-None-clause-named : goal.returns-in-None-clause-named
@@ -34,27 +37,46 @@ returns-in-None-clause-named c =
     ((c.in_ok-matches.ensures.matches (ap is_simple app)).1 ∙ ap (λ (a : App). subcommand_of a words) app)
     c.in-None.ensures.variant
 
-some_of_map : {X Y : Type 0} (f : X → Y) (o : Option X) (y : Y) → option_map f o ≡ Some y → IsSome o
-some_of_map f None y e = let bad : None ≡ Some y = e in cc
-some_of_map f (Some x) y e = refl
-
-pub unwrap-file-requires : goal.unwrap-file-requires
-unwrap-file-requires c =
+pub returns-in-Some-trace-default-clause-named : goal.returns-in-Some-trace-default-clause-named
+returns-in-Some-trace-default-clause-named c =
     let words : List Text = texts c.args.words.now in
     let app = c.in_ok-command_line.ensures in
-    let found = one_task words c.in_ok-matches.matches c.in-Some.inner.now c.in-Some._run.now
+    let given : ArgMatches = c.in-Some-trace-default.given.now in
+    let called = one_task words c.in_ok-matches.matches given c.in-Some-trace-default.field-0-0.now
     (sym (ap (λ (a : App). fault_of a words) app) ∙ c.in_ok-matches.ensures.kinds (ap is_simple_and_free app))
     ((c.in_ok-matches.ensures.matches (ap is_simple app)).1 ∙ ap (λ (a : App). subcommand_of a words) app)
-    c.in-Some.ensures.name c.in-Some.ensures.rows in
-    some_of_map _ c.get_str.result found.1 (c.get_str.ensures ∙ found.2)
+    c.in-Some-trace-default.ensures.name c.in-Some-trace-default.ensures.rows in
+    called_trace (drop 1 words) (rows_of (found_of given)) _ (c.get_str.ensures ∙ first_value-rows (found_of given) (codes "file"))
+    (subst (λ (t : Text). Called (drop 1 words) t (rows_of (found_of given))) c.in-Some-trace-default.is-trace called)
+
+pub returns-in-Some-draw-default-clause-named : goal.returns-in-Some-draw-default-clause-named
+returns-in-Some-draw-default-clause-named c =
+    let words : List Text = texts c.args.words.now in
+    let app = c.in_ok-command_line.ensures in
+    let given : ArgMatches = c.in-Some-draw-default.given.now in
+    let rows : List Row = rows_of (found_of given) in
+    let called = one_task words c.in_ok-matches.matches given c.in-Some-draw-default.field-0-0.now
+    (sym (ap (λ (a : App). fault_of a words) app) ∙ c.in_ok-matches.ensures.kinds (ap is_simple_and_free app))
+    ((c.in_ok-matches.ensures.matches (ap is_simple app)).1 ∙ ap (λ (a : App). subcommand_of a words) app)
+    c.in-Some-draw-default.ensures.name c.in-Some-draw-default.ensures.rows in
+    called_draw (drop 1 words) rows _ (λ a holds. (
+      c.get_str-in-Some-draw-default.ensures ∙ first_value-rows (found_of given) (codes "file") ∙ holds.file,
+      number_is (λ bs r. ParsesUnsigned 64 10 bs r × ExplainsUnsignedError 10 bs r × HasUnsignedDigitsIfOk bs r) (λ t r reads. reads.0) (one_of (codes "from") rows) a.from holds.from c.get_one.result
+          (λ none. c.get_one.ensures.none (one_text-rows (found_of given) (codes "from") ∙ none)) (λ t some. c.get_one.ensures.value t (one_text-rows (found_of given) (codes "from") ∙ some)),
+      number_is (λ bs r. ParsesUnsigned 64 10 bs r × ExplainsUnsignedError 10 bs r × HasUnsignedDigitsIfOk bs r) (λ t r reads. reads.0) (one_of (codes "to") rows) a.to holds.to c.get_one-in-Some-draw-default.result
+          (λ none. c.get_one-in-Some-draw-default.ensures.none (one_text-rows (found_of given) (codes "to") ∙ none)) (λ t some. c.get_one-in-Some-draw-default.ensures.value t (one_text-rows (found_of given) (codes "to") ∙ some)),
+    ))
+    (subst (λ (t : Text). Called (drop 1 words) t rows) c.in-Some-draw-default.is-draw called)
 
 pub returns-clause-named : goal.returns-clause-named
 returns-clause-named c =
     let words : List Text = texts c.args.words.now in
     let app = c.in_ok-command_line.ensures in
-    let found = one_task words c.in_ok-matches.matches c.in-Some.inner.now c.in-Some._run.now
+    let given : ArgMatches = c.in-Some.given.now in
+    let no_trace : c.in-Some._run.now ≡ codes "trace" → ⊥ = search in
+    let no_draw : c.in-Some._run.now ≡ codes "draw" → ⊥ = search in
+    let called = one_task words c.in_ok-matches.matches given c.in-Some._run.now
     (sym (ap (λ (a : App). fault_of a words) app) ∙ c.in_ok-matches.ensures.kinds (ap is_simple_and_free app))
     ((c.in_ok-matches.ensures.matches (ap is_simple app)).1 ∙ ap (λ (a : App). subcommand_of a words) app)
     c.in-Some.ensures.name c.in-Some.ensures.rows in
-    let file : c.unwrap-file.result.now ≡ found.1 = same_in_some _ _ (sym (ap (option_map (λ s. s.now)) c.unwrap-file.ensures) ∙ c.get_str.ensures ∙ found.2) in
-    ap (λ (t : Text). codes "run" ∷ t ∷ []) file ∙ ap (λ (n : Text). n ∷ found.1 ∷ []) (sym found.0) ∙ sym found.3
+    called_run (drop 1 words) (rows_of (found_of given)) _ (c.get_str-in-Some.ensures ∙ first_value-rows (found_of given) (codes "file")) c.in-Some._run.now no_trace no_draw called

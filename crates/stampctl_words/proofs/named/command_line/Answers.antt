@@ -1,8 +1,7 @@
-use Rattle.std.proofs.Common.{◌≡◌, ◌∙◌, rules, ap, ap₂, codes, true}
+use Rattle.std.proofs.Common.{◌≡◌, ◌∙◌, ap, ap₂, codes, true}
 use Rattle.std.proofs.lemmas.Result.{IfOk-weaker}
-use Rattle.clap.specs.Words.{app_of, new_app, shape_of, with_subcommand}
+use Rattle.clap.specs.Words.{app_of, new_app, with_subcommand}
 use Rattle.clap.specs.Simple.{app_of_fields, on_top}
-use Rattle.stampctl_words.specs.CommandLine.{file_shape}
 use Rattle.stampctl_words.proofs.named.command_line.Goals as goal
 
 pub returns : goal.returns
@@ -11,5 +10,6 @@ returns c =
     let after : app_of c.after_help.result ≡ new_app (codes "stampctl") = ap app_of_fields c.after_help.ensures ∙ about in
     let top : app_of c.disable_help_subcommand.result ≡ on_top (λ s. record s { disable_help_subcommand = true }) (new_app (codes "stampctl")) =
     ap app_of_fields c.disable_help_subcommand.ensures ∙ ap (on_top (λ s. record s { disable_help_subcommand = true })) after in
-    let run : shape_of c.in_ok-script.script ≡ file_shape (codes "run") = search rules in
-    IfOk-weaker c.subcommand.result _ _ (λ new added. added.shape c.in_ok-script.ensures.local ∙ ap₂ with_subcommand top run) c.subcommand.ensures
+    let run = c.in_ok-subcommand.ensures.shape c.in_ok-run.ensures.local ∙ ap₂ with_subcommand top c.in_ok-run.ensures.shape in
+    let trace = c.in_ok-subcommand-2.ensures.shape c.in_ok-trace.ensures.local ∙ ap₂ with_subcommand run c.in_ok-trace.ensures.shape in
+    IfOk-weaker c.subcommand-3.result _ _ (λ new added. added.shape c.in_ok-draw.ensures.local ∙ ap₂ with_subcommand trace c.in_ok-draw.ensures.shape) c.subcommand-3.ensures

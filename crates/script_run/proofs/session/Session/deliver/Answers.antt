@@ -7,11 +7,11 @@ use Rattle.script_run.proofs.session.Session.deliver.Goals as goal
 
 pub returns-in-None-clause-delivers : goal.returns-in-None-clause-delivers
 returns-in-None-clause-delivers g c =
-    let same : c.sent.result.now ≡ c.args.self.now.run.stream_layer.post = c.sent.ensures ∙ ap (λ (s : SessionState). s.run.stream_layer.post) c.self.view_is in
+    let same : c.sent.result.now ≡ c.args.self.now.run.stream_layer.post = c.sent.ensures.sent ∙ ap (λ (s : SessionState). s.run.stream_layer.post) c.self.view_is in
     never_sent _ c.args.self.now c.args.number (subst (λ (post : List Packet). length post ≤ c.args.number) same c.in-None.ensures.lookup.3)
 
 pub returns-in_ok-answer-in-Some-clause-delivers : goal.returns-in_ok-answer-in-Some-clause-delivers
 returns-in_ok-answer-in-Some-clause-delivers g c =
     on_ok_weaker c.hand_over.result
-    (sent_before _ _ c.args.self.now _ c.args.number c.sent.result.now c.in-Some.packet.now _ (c.sent.ensures ∙ ap (λ (s : SessionState). s.run.stream_layer.post) c.self.view_is) c.in-Some.ensures.lookup.3.0 c.in-Some.ensures.lookup.1 c.in_ok-answer-in-Some.ensures)
+    (sent_before _ _ c.args.self.now _ c.args.number c.sent.result.now c.in-Some.packet.now _ (c.sent.ensures.sent ∙ ap (λ (s : SessionState). s.run.stream_layer.post) c.self.view_is) c.in-Some.ensures.lookup.3.0 c.in-Some.ensures.lookup.1 c.in_ok-answer-in-Some.ensures)
     c.hand_over.ensures.delivers

@@ -1,0 +1,54 @@
+-- Which call the words name, by what was found after the subcommand's name.
+use Rattle.std.proofs.Common.{◌≡◌, ◌∙◌, ◌<◌, ◌^◌, ℕ, Bool, codes, true, false, refl, sym, subst, inl, inr, List, ◌∷◌, Option, Some, None, Result, Ok, Err}
+use Rattle.std.specs.Str.Parse.{ParsesUnsigned}
+use Rattle.clap.specs.Matches.{ReadsOne}
+use Rattle.clap.specs.Walk.{Row, Text, first_of}
+use Rattle.stampctl_words.specs.Words.{Adds, Arguments, Draw, Draws, MayBeFile, Names, Run, Runs, Trace, Traces, no_arguments}
+use Rattle.stampctl_words.proofs.RowLemmas.{Holds, IsRead}
+use Rattle.stampctl_words.proofs.WordLemmas.{Called, IsNamed}
+
+-- a subcommand of a file alone
+module _ (words : List Text) (rows : List Row) (file : Option Text) (is : file ≡ first_of (codes "file") rows) where
+  pub called_trace : Called words (codes "trace") rows → Names MayBeFile words (Trace file)
+  called_trace called = go called.has_options called.named called.adds
+    where
+      go : (b : Bool) → IsNamed b (codes "trace") → Adds MayBeFile b called.rest no_arguments called.arguments → Names MayBeFile words (Trace file)
+      go true named adds = let bad : codes "trace" ≡ codes "draw" = named in cc
+      go false named adds =
+          subst (λ (ws : List Text). Names MayBeFile ws (Trace file)) (sym called.is)
+          (subst (λ (o : Option Text). Names MayBeFile (codes "trace" ∷ called.rest) (Trace o)) (sym called.holds.file ∙ sym is) (Traces called.rest called.arguments adds))
+
+  pub called_run : (name : Text) → (name ≡ codes "trace" → ⊥) → (name ≡ codes "draw" → ⊥) → Called words name rows → Names MayBeFile words (Run file)
+  called_run name no_trace no_draw called = go called.has_options called.named called.adds
+    where
+      go : (b : Bool) → IsNamed b name → Adds MayBeFile b called.rest no_arguments called.arguments → Names MayBeFile words (Run file)
+      go true named adds = absurd (no_draw named)
+      go false (inr named) adds = absurd (no_trace named)
+      go false (inl named) adds =
+          subst (λ (ws : List Text). Names MayBeFile ws (Run file)) (sym (subst (λ (t : Text). words ≡ t ∷ called.rest) named called.is))
+          (subst (λ (o : Option Text). Names MayBeFile (codes "run" ∷ called.rest) (Run o)) (sym called.holds.file ∙ sym is) (Runs called.rest called.arguments adds))
+
+pub called_draw : (words : List Text) (rows : List Row) (b : Arguments) → ((a : Arguments) → Holds rows a → (b.file ≡ a.file) × (b.from ≡ a.from) × (b.to ≡ a.to))
+    → Called words (codes "draw") rows → Names MayBeFile words (Draw b)
+called_draw words rows b same called = go called.has_options called.named called.adds
+  where
+    go : (has_options : Bool) → IsNamed has_options (codes "draw") → Adds MayBeFile has_options called.rest no_arguments called.arguments → Names MayBeFile words (Draw b)
+    go false (inl named) adds = let bad : codes "draw" ≡ codes "run" = named in cc
+    go false (inr named) adds = let bad : codes "draw" ≡ codes "trace" = named in cc
+    go true named adds =
+        let parts = same called.arguments called.holds in
+        let is : ◌≡◌ {A = Arguments} b called.arguments = λ i. record { file = parts.0 i; from = parts.1 i; to = parts.2 i } in
+        subst (λ (ws : List Text). Names MayBeFile ws (Draw b)) (sym called.is)
+        (subst (λ (a : Arguments). Names MayBeFile (codes "draw" ∷ called.rest) (Draw a)) (sym is) (Draws called.rest called.arguments adds))
+
+-- what `get_one` reads of an option's text
+pub number_is : {E : Type 0} (G : Text → Result ℕ E → Type 0) → ((t : Text) (r : Result ℕ E) → G t r → ParsesUnsigned 64 10 t r)
+    → (o : Option Text) (wanted : Option ℕ) → IsRead o wanted → (r : Option ℕ) → (o ≡ None → r ≡ None) → ((t : Text) → o ≡ Some t → ReadsOne G t r) → r ≡ wanted
+number_is G parses None None read r none some = none refl
+number_is G parses None (Some n) read r none some = absurd read
+number_is G parses (Some t) None read r none some = absurd read
+number_is G parses (Some t) (Some n) read r none some = go r (some t refl)
+  where
+    go : (x : Option ℕ) → ReadsOne G t x → x ≡ Some n
+    go (Some v) given = let is : v ≡ n = (parses t (Ok v) given).1 ∙ read.1 in cc
+    go None given = absurd (parses t (Err given.0) given.1 (read.0, subst (λ (k : ℕ). k < 2 ^ 64) (sym read.1) read.2))
