@@ -51,6 +51,15 @@ def appended(script, count, payload):
     return [ran.seconds, scripts.DELIVERIES_PER_APPEND * count / ran.seconds, ran.peak / payload]
 
 
+def shown(script, count):
+    """The seconds of a trace and of a drawing of so many appends, and each over those of the run, by turns with it."""
+    ran, traced, drawn = by_turns([[STAMPCTL], [STAMPCTL, "trace"], [STAMPCTL, "draw"]], script)
+    did(ran, b"appended", count)
+    did(traced, b"appended", count)
+    assert drawn.out.endswith(b"</svg>\n"), drawn.out[-80:]
+    return [traced.seconds, traced.seconds / ran.seconds, drawn.seconds, drawn.seconds / ran.seconds]
+
+
 def told_micros(words, told):
     """The least time in seconds that a run of bench tells, behind these words, of some runs."""
     found = []
@@ -124,6 +133,16 @@ def loads_behind(since):
     return [repeats(lambda loads: scripts.loads_behind(20_000, since, loads))[0]]
 
 
+def dumps(count):
+    """The seconds of a dump of so many records of 1 KiB, and the peak over the file."""
+    with tempfile.NamedTemporaryFile() as file:
+        file.write(scripts.record_file(count))
+        file.flush()
+        ran = best([STAMPCTL, "dump", file.name])
+        assert ran.out.count(b"\n") == count and ran.out.startswith(b"append 1 0 1024\n"), ran.out[-80:]
+        return [ran.seconds, ran.peak / file.tell()]
+
+
 def splits(keys):
     """The seconds of a split of a range with so many keys."""
     without, split = at_sizes(lambda times: scripts.one_split(keys, times), [0, 1])
@@ -156,6 +175,9 @@ SIZES = [
      lambda n: appended(lambda: scripts.appends(n, scripts.SPELLED), n, n * KIB), APPEND_FIGURES),
     ("appends of one byte to three nodes", 10_000,
      lambda n: appended(lambda: scripts.appends(n, scripts.BYTE), n, n), APPEND_FIGURES),
+    ("appends of one byte to three nodes, as a trace and as a drawing", 10_000,
+     lambda n: shown(lambda: scripts.appends(n, scripts.BYTE), n),
+     [("time of the trace", "s", 2.3), ("trace over run", "", None), ("time of the drawing", "s", 2.3), ("drawing over run", "", None)]),
     ("groups of 64 blocks of 1 KiB to three nodes", 500,
      lambda n: appended(lambda: scripts.groups(n), n, n * 64 * KIB), APPEND_FIGURES),
     ("appends of 1 KiB to one extent, which 16,384 fill", 8_192,
@@ -172,6 +194,7 @@ SIZES = [
      lambda n: restarts(lambda times: scripts.manager_restarts(n, times), f"user 1 {2 * n + 1} extended {n + 1}"), [TIME]),
     ("records at the map's restart in a script", 20_000,
      lambda n: restarts(lambda times: scripts.map_restarts(n, times), "user 1 0 route 1 1"), [TIME]),
+    ("records of 1 KiB in a record file that is dumped", 100_000, dumps, [TIME, ("peak over the file", "", None)]),
     ("extents in each of 100 streams, added and found", 5_000,
      lambda n: told_micros(["streams", str(n)], f"found {100 * n}"), [TIME]),
     ("transactions of one put of 100 bytes on one range", 20_000, transactions,

@@ -1,6 +1,7 @@
 """The scripts that are measured: each a function that gives the lines of so many requests, one after another, so that no
-script is ever whole in the memory of the one who measures.
+script is ever whole in the memory of the one who measures. And a record file, which is.
 """
+import struct
 
 # The greatest target, 16,777,216 bytes, takes 16,384 appends of 1 KiB; each of the four streams can have one extent.
 TARGET = 16_777_216
@@ -41,6 +42,16 @@ def appends(count, words, per_stream=APPENDS_PER_STREAM):
         yield f"user 1 append 1 {stream + 1} {words}"
     yield f"setup 3 1 {TARGET} 1"
     yield from settled(lines, count, REQUESTS_PER_SETTLE)
+
+
+def record_file(count):
+    """A record file of version 1 with so many appends of 1 KiB, 16,384 to an extent (docs/FORMATS.md)."""
+    file = bytearray(b"XRF1")
+    for number in range(count):
+        extent, before = divmod(number, TARGET // 1024)
+        body = struct.pack(">BQIBI", 2, extent + 1, before * 1024, 1, 1024) + b"a" * 1024
+        file += b"\x01" + struct.pack(">I", len(body)) + body
+    return bytes(file) + b"\0"
 
 
 def groups(count):

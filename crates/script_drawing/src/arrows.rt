@@ -51,33 +51,43 @@ fn words_of(
     Ok(words)
 }
 
-/// Writes the arrows.
-pub(crate) fn write_arrows(
+/// What is shown where an arrow or its label is pointed at, for each arrow.
+pub(crate) fn words_of_all(
     alloc: Global,
-    canvas: &mut Canvas,
     layout: &Layout<'_>,
     flights: &[Flight],
+) -> Result<Vec<String>, AllocError> {
+    let mut all = Vec::new(alloc);
+    for flight in flights {
+        let words = match layout.sent.get(flight.number) {
+            Some(packet) => words_of(alloc, layout, packet, flight)?,
+            None => String::new(alloc),
+        };
+        all.push(words)?;
+    }
+    Ok(all)
+}
+
+/// Writes the arrows.
+pub(crate) fn write_arrows(
+    canvas: &mut Canvas,
+    flights: &[Flight],
+    words: &[String],
 ) -> Result<(), AllocError> {
     canvas.begin("fill=\"none\" stroke-width=\"1.2\"")?;
-    for flight in flights {
-        if let Some(packet) = layout.sent.get(flight.number) {
-            let words = words_of(alloc, layout, packet, flight)?;
-            canvas.arrow(flight.arrow, words.as_bytes())?;
-        }
+    for (flight, words) in flights.iter().zip(words) {
+        canvas.arrow(flight.arrow, words.as_bytes())?;
     }
     canvas.end()
 }
 
 /// Writes the label of an arrow.
 fn write_label(
-    alloc: Global,
     canvas: &mut Canvas,
-    layout: &Layout<'_>,
-    packet: &Packet,
     flight: &Flight,
+    label: &str,
+    words: &str,
 ) -> Result<(), AllocError> {
-    let label = label_of(alloc, packet, flight)?;
-    let words = words_of(alloc, layout, packet, flight)?;
     let Point { x, y } = flight.label;
     let left = if flight.is_leftward {
         x.saturating_sub(label_width(label.as_bytes()))
@@ -93,11 +103,13 @@ pub(crate) fn write_labels(
     canvas: &mut Canvas,
     layout: &Layout<'_>,
     flights: &[Flight],
+    words: &[String],
 ) -> Result<(), AllocError> {
     canvas.begin("font-size=\"10\"")?;
-    for flight in flights {
+    for (flight, words) in flights.iter().zip(words) {
         if let Some(packet) = layout.sent.get(flight.number) {
-            write_label(alloc, canvas, layout, packet, flight)?;
+            let label = label_of(alloc, packet, flight)?;
+            write_label(canvas, flight, label.as_str(), words.as_str())?;
         }
     }
     canvas.end()

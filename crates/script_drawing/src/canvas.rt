@@ -15,6 +15,9 @@ const COLOURS: [&str; 6] = [
     "#1f4e9c", "#8a1f5c", "#1d6b3a", "#8a4b08", "#5b2a86", "#44546a",
 ];
 
+/// Printed, a drawing is as wide as the page, whose edge would cut off the margin on its right.
+const PRINTED: &str = "<style>@media print{svg:root{width:100%;height:auto}}</style>\n";
+
 /// How far a loop stands out from its life line, in pixels.
 const LOOP_WIDTH: u64 = 36;
 
@@ -74,6 +77,7 @@ impl Canvas {
             text,
             " font-size=\"11\" width=\"{width}\" height=\"{height}\" viewBox=\"0 0 {width} {height}\">"
         )?;
+        text.push_str(PRINTED)?;
         let mut canvas = Canvas { text };
         canvas.write_heads()?;
         canvas.begin("fill=\"white\"")?;

@@ -1,4 +1,5 @@
 //! The actors of a drawing, from left to right.
+use crate::journey::delivered_by;
 use script_steps::{Act, Step};
 use std::alloc::{AllocError, Global};
 use wire::{ActorId, Packet, ServerNo};
@@ -86,9 +87,9 @@ impl Columns {
     fn add_step(&mut self, step: &Step, sent: &[Packet]) -> Result<(), AllocError> {
         match step.act {
             Act::Submit { user } => self.add(ActorId::User(user))?,
-            Act::Deliver { number } => {
-                if let Some(packet) = sent.get(number) {
-                    self.add_ends(packet)?;
+            Act::Deliver { number: _ } => {
+                if let Some(number) = delivered_by(step) {
+                    self.add_ends_of(number, sent)?;
                 }
             }
             Act::Stop { actor }
@@ -103,6 +104,14 @@ impl Columns {
             self.add_ends(packet)?;
         }
         Ok(())
+    }
+
+    /// Adds the ends of the packet of a number, if there is one.
+    fn add_ends_of(&mut self, number: usize, sent: &[Packet]) -> Result<(), AllocError> {
+        match sent.get(number) {
+            Some(packet) => self.add_ends(packet),
+            None => Ok(()),
+        }
     }
 
     fn add_ends(&mut self, packet: &Packet) -> Result<(), AllocError> {

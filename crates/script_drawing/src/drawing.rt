@@ -1,6 +1,6 @@
 //! A whole drawing.
 use crate::acts::write_acts;
-use crate::arrows::{write_arrows, write_labels};
+use crate::arrows::{words_of_all, write_arrows, write_labels};
 use crate::canvas::Canvas;
 use crate::flights::flights_of;
 use crate::layout::Layout;
@@ -9,7 +9,7 @@ use crate::margins::{
     width_of, write_caption, write_events, write_notes, write_numbers, write_rules,
 };
 use script_run::Failure;
-use script_steps::Steps;
+use script_steps::{event_lines, steps_of};
 use std::alloc::{AllocError, Global};
 use std::io::Write;
 
@@ -35,12 +35,19 @@ fn text_of(
     let height = layout.grid.bottom.saturating_add(FOOT);
     let mut canvas = Canvas::new(alloc, width, height)?;
     let flights = flights_of(alloc, layout)?;
+    let words = words_of_all(alloc, layout, flights.as_slice())?;
     write_rules(&mut canvas, &layout.grid, width)?;
     write_life_lines(alloc, &mut canvas, layout)?;
     write_moments(alloc, &mut canvas, layout)?;
-    write_arrows(alloc, &mut canvas, layout, flights.as_slice())?;
+    write_arrows(&mut canvas, flights.as_slice(), words.as_slice())?;
     write_acts(alloc, &mut canvas, layout, lines)?;
-    write_labels(alloc, &mut canvas, layout, flights.as_slice())?;
+    write_labels(
+        alloc,
+        &mut canvas,
+        layout,
+        flights.as_slice(),
+        words.as_slice(),
+    )?;
     write_names(alloc, &mut canvas, layout)?;
     write_caption(alloc, &mut canvas, &layout.grid, all)?;
     write_numbers(alloc, &mut canvas, &layout.grid)?;
@@ -49,17 +56,20 @@ fn text_of(
     canvas.finish()
 }
 
-/// Writes a drawing of a part of these steps, as one SVG document. The lines are the events' words, as `event_lines` gives them.
-/// Where there is no event in the part, the drawing has the actors of all steps and nothing more. An error is out of memory (22),
-/// and then nothing has been written, or that the writer failed.
-pub fn write_drawing<W: Write>(
+/// Runs the script of this text, and writes a drawing of a part of its events, as one SVG document. Where there is no event in the
+/// part, the drawing has the actors of all events and nothing more. An error is a text that is no script (60), or running out of
+/// memory (22), and then nothing has been written, or that the writer failed.
+pub fn draw<W: Write>(
     alloc: Global,
-    steps: &Steps,
-    lines: &[&[u8]],
+    text: &[u8],
     part: Part,
     writer: &mut W,
 ) -> Result<(), Failure> {
-    let layout = Layout::new(alloc, steps, part.from.saturating_sub(1), part.to)?;
-    let text = text_of(alloc, &layout, lines, steps.steps().len())?;
-    writer.write_all(text.as_bytes()).map_err(Failure::Output)
+    let steps = steps_of(alloc, text)?;
+    let lines = event_lines(alloc, text)?;
+    let layout = Layout::new(alloc, &steps, part.from.saturating_sub(1), part.to)?;
+    let drawing = text_of(alloc, &layout, lines.as_slice(), steps.steps().len())?;
+    writer
+        .write_all(drawing.as_bytes())
+        .map_err(Failure::Output)
 }

@@ -2,9 +2,9 @@
 use crate::canvas::{Arrow, Point};
 use crate::columns::Column;
 use crate::grid::{LINE_HEIGHT, Row};
-use crate::journey::Journey;
+use crate::journey::{Journey, delivered_by};
 use crate::layout::{Ends, Layout};
-use script_steps::{Act, Step};
+use script_steps::Step;
 use std::alloc::{AllocError, Global};
 
 /// How far to the side an arrow goes that has an end outside the drawing, in pixels.
@@ -174,7 +174,7 @@ fn add_row(
     row: Row,
     step: &Step,
 ) -> Result<(), AllocError> {
-    if let Act::Deliver { number } = step.act {
+    if let Some(number) = delivered_by(step) {
         if let Some(ends) = layout.ends_of(number) {
             flights.push(arrival(layout, ends, number, place, row))?;
         }

@@ -25,6 +25,14 @@ impl Journey {
     }
 }
 
+/// The number of the packet that a step delivers, if it delivers one. Before it is sent there is no packet of a number.
+pub(crate) fn delivered_by(step: &Step) -> Option<usize> {
+    match step.act {
+        Act::Deliver { number } if number < step.first => Some(number),
+        _ => None,
+    }
+}
+
 /// The journeys of so many packets.
 pub(crate) fn journeys_of(
     alloc: Global,
@@ -51,7 +59,7 @@ fn note_step(journeys: &mut [Journey], place: usize, step: &Step) {
             journey.sent = Some(place);
         }
     }
-    if let Act::Deliver { number } = step.act {
+    if let Some(number) = delivered_by(step) {
         if let Some(journey) = journeys.get_mut(number) {
             journey.note_delivery(place);
         }

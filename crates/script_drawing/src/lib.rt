@@ -19,5 +19,5 @@ mod life_lines;
 mod margins;
 mod svg_text;
 
-pub use drawing::{Part, write_drawing};
+pub use drawing::{Part, draw};
 pub use svg_text::SvgText;

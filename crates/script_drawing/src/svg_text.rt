@@ -9,13 +9,44 @@ pub struct SvgText<'a>(pub &'a [u8]);
 impl fmt::Display for SvgText<'_> {
     fn fmt<W: fmt::Write>(&self, f: &mut fmt::Formatter<W>) -> fmt::Result {
         for chunk in self.0.utf8_chunks() {
-            for character in chunk.valid().chars() {
-                write_character(f, character)?;
+            write_text(f, chunk.valid())?;
+            if !chunk.invalid().is_empty() {
+                write!(f, "{}", chunk.invalid().escape_ascii())?;
             }
-            write!(f, "{}", chunk.invalid().escape_ascii())?;
         }
         Ok(())
     }
+}
+
+/// Whether a byte is shown as one column, as the character that it is.
+fn is_seen(byte: u8) -> bool {
+    byte >= b' ' && byte <= b'~' && byte != b'\\'
+}
+
+/// Whether a byte is written as it is.
+fn is_plain(byte: u8) -> bool {
+    is_seen(byte) && byte != b'&' && byte != b'<' && byte != b'>' && byte != b'"'
+}
+
+/// Writes a text. Most have nothing to escape but the arrows of packets' lines, so what stands between these is written at once.
+fn write_text<W: fmt::Write>(f: &mut fmt::Formatter<W>, text: &str) -> fmt::Result {
+    for (place, part) in text.split('>').enumerate() {
+        if place > 0 {
+            f.write_str("&gt;")?;
+        }
+        write_part(f, part)?;
+    }
+    Ok(())
+}
+
+fn write_part<W: fmt::Write>(f: &mut fmt::Formatter<W>, part: &str) -> fmt::Result {
+    if part.as_bytes().iter().all(|byte| is_plain(*byte)) {
+        return f.write_str(part);
+    }
+    for character in part.chars() {
+        write_character(f, character)?;
+    }
+    Ok(())
 }
 
 fn write_character<W: fmt::Write>(f: &mut fmt::Formatter<W>, character: char) -> fmt::Result {
@@ -39,6 +70,9 @@ pub(crate) struct ClippedText<'a> {
 impl ClippedText<'_> {
     /// How many bytes of the text are shown.
     fn shown_length(&self) -> usize {
+        if self.text.len() <= self.columns && self.text.iter().all(|byte| is_seen(*byte)) {
+            return self.text.len();
+        }
         let mut room = Room::new(self.columns);
         for chunk in self.text.utf8_chunks() {
             for character in chunk.valid().chars() {

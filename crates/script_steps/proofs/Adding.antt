@@ -1,7 +1,7 @@
 -- Steps that are added stay as they were seen, whatever is sent later.
-use Rattle.std.proofs.Common.{◌≡◌, ◌∙◌, ◌+◌, ◌-◌, ◌≤◌, add-one, ap, append-nil, append_assoc, arith, drop, length, length-append, map, refl, subst, suc, sym, take, zero, ℕ, List, [], ◌∷◌, ◌++◌, Option, Some, inl, inr}
+use Rattle.std.proofs.Common.{◌≡◌, ◌∙◌, ◌+◌, ◌-◌, ◌≤◌, add-one, ap, append-nil, append_assoc, arith, drop, length, length-append, map, refl, subst, suc, sym, take, zero, ℕ, List, [], ◌∷◌, ◌++◌, inl, inr}
+use Rattle.std.proofs.lemmas.List.{map-append}
 use Rattle.std.specs.List.{AllByRecursion}
-use Rattle.std.specs.Io.KnownBytes.{Appends}
 use Rattle.wire.specs.declared.packet.Packet.{Packet}
 use Rattle.script_lines.specs.declared.line.Line.{Line}
 use Rattle.script_lines.specs.declared.line.Line.TheVariants as lines
@@ -68,7 +68,7 @@ between_last xs ys =
 seen_stays : (xs ys : List Packet) (steps : List Step) → AllByRecursion (IsWithin xs) steps → map (seen_of (xs ++ ys)) steps ≡ map (seen_of xs) steps
 seen_stays xs ys [] within = refl
 seen_stays xs ys (step ∷ steps) within =
-    ap (λ (p : List Packet). record { line = step.line; act = step.act; packets = p; printed = step.printed.items } ∷ map (seen_of (xs ++ ys)) steps)
+    ap (λ (p : List Packet). record { line = step.line; act = step.act; first = step.first; packets = p; printed = step.printed.items } ∷ map (seen_of (xs ++ ys)) steps)
     (between_stays step.first step.end xs ys within.0.0 within.0.1)
     ∙ ap (λ (l : List StepSeen). seen_of xs step ∷ l) (seen_stays xs ys steps within.1)
 
@@ -102,6 +102,13 @@ adds_both x y z One Other Both joins one other =
 pub adds_weaker : (x y : StepsKept) (P Q : List StepSeen → Type 0) → ((more : List StepSeen) → P more → Q more) → Adds x y P → Adds x y Q
 adds_weaker x y P Q f h = record { more = h.more; steps = h.steps; within = h.within; sent = h.sent; are = f _ h.are }
 
+-- where there was none, those of y are what was added
+pub only_added : (x y : StepsKept) (Are : List StepSeen → Type 0) → x.steps ≡ [] → (added : Adds x y Are) → y.steps ≡ added.more
+only_added x y Are none added = added.steps ∙ ap (λ (l : List Step). l ++ added.more) none
+
+pub all_within : (x y : StepsKept) (Are : List StepSeen → Type 0) → x.steps ≡ [] → Adds x y Are → AllByRecursion (IsWithin (post_of y.session)) y.steps
+all_within x y Are none added = subst (λ (l : List Step). AllByRecursion (IsWithin (post_of y.session)) l) (sym (only_added x y Are none added)) added.within
+
 -- a step is kept that began in the session of x and ended in that of y
 pub adds_one : (x y : StepsKept) (step : Step) (k : ℕ) (act : Act) (Is : StepSeen → Type 0) → y.steps ≡ x.steps ++ step ∷ [] → Grows (post_of x.session) (post_of y.session)
     → step.line ≡ k → step.act ≡ act → step.first ≡ length (post_of x.session) → step.end ≡ length (post_of y.session)
@@ -118,7 +125,7 @@ adds_one x y step k act Is kept grown line does first end is =
       steps = kept;
       within = ((omega (arith, first, end, ap length grown.1, length-append (post_of x.session) grown.0), omega (arith, end)), tt);
       sent = grown;
-      are = (seen, refl, is seen refl (record { line = line; act = does; sends = grown.1 ∙ ap (λ (l : List Packet). post_of x.session ++ l) (sym packets) }));
+      are = (seen, refl, is seen refl (record { line = line; act = does; first = first; sends = grown.1 ∙ ap (λ (l : List Packet). post_of x.session ++ l) (sym packets) }));
     }
 
 -- ---- a settle
@@ -174,24 +181,38 @@ lowest_added x y r k n found is h = record {
 
 -- ---- lines in turn
 
-steps_push : (lines : List Line) (line : Line) (k : ℕ) (s t u : SessionState) (first last : List StepSeen) → StepsOfAll lines s first t → StepsOf k line t last u
-    → StepsOfAll (lines ++ line ∷ []) s (first ++ last) u
-steps_push [] line k s t u first last all one =
-    (k, u, last, [], subst (λ (r : SessionState). StepsOf k line r last u) all.1 one, (refl, refl), ap (λ (l : List StepSeen). l ++ last) all.0 ∙ sym (append-nil last))
-steps_push (x ∷ lines) line k s t u first last all one = (
+-- the lines of pairs of a place and a line
+abbrev pub lines_in : List (ℕ × Line) → List Line
+lines_in pairs = map (λ p. p.1) pairs
+
+pub lines_in_more : (pairs : List (ℕ × Line)) (place : ℕ) (line : Line) → lines_in (pairs ++ (place, line) ∷ []) ≡ lines_in pairs ++ line ∷ []
+lines_in_more pairs place line = map-append (λ (p : ℕ × Line). p.1) pairs ((place, line) ∷ [])
+
+-- the first of the lines is at k, so the line after them is at the place that their number is past it
+steps_push : (lines : List Line) (line : Line) (k place : ℕ) (s t u : SessionState) (first last : List StepSeen) → place ≡ k + length lines
+    → StepsOfAll k lines s first t → StepsOf place line t last u → StepsOfAll k (lines ++ line ∷ []) s (first ++ last) u
+steps_push [] line k place s t u first last at all one = (
+  u,
+  last,
+  [],
+  subst (λ (n : ℕ). StepsOf n line s last u) (at ∙ omega arith) (subst (λ (r : SessionState). StepsOf place line r last u) all.1 one),
+  (refl, refl),
+  ap (λ (l : List StepSeen). l ++ last) all.0 ∙ sym (append-nil last),
+)
+steps_push (x ∷ lines) line k place s t u first last at all one = (
   all.0,
   all.1,
-  all.2,
-  all.3 ++ last,
-  all.4,
-  steps_push lines line k all.1 t u all.3 last all.5 one,
-  ap (λ (l : List StepSeen). l ++ last) all.6 ∙ append_assoc all.2 all.3 last,
+  all.2 ++ last,
+  all.3,
+  steps_push lines line (suc k) place all.0 t u all.2 last (at ∙ omega arith) all.4 one,
+  ap (λ (l : List StepSeen). l ++ last) all.5 ∙ append_assoc all.1 all.2 last,
 )
 
-pub lines_next : (x y z : StepsKept) (k : ℕ) (lines : List Line) (line : Line) (s : SessionState) → Adds x y (λ more. StepsOfAll lines s more y.session)
-    → Adds y z (λ more. StepsOf k line y.session more z.session) → Adds x z (λ more. StepsOfAll (lines ++ line ∷ []) s more z.session)
-lines_next x y z k lines line s =
-    adds_both x y z _ _ _ (λ first last all one. steps_push lines line k s y.session z.session first last all one)
+pub lines_next : (x y z : StepsKept) (lines : List Line) (line : Line) (place : ℕ) (s : SessionState) → place ≡ length lines
+    → Adds x y (λ more. StepsOfAll 0 lines s more y.session) → Adds y z (λ more. StepsOf place line y.session more z.session)
+    → Adds x z (λ more. StepsOfAll 0 (lines ++ line ∷ []) s more z.session)
+lines_next x y z lines line place s at =
+    adds_both x y z _ _ _ (λ first last all one. steps_push lines line 0 place s y.session z.session first last (at ∙ omega arith) all one)
 
 -- a line that makes deliveries: its own step, and then these
 pub begins_and : (x y z : StepsKept) (k : ℕ) (Are : SessionState → List StepSeen → Type 0) → AddsOne x y (λ step. StepBegins k x.session step y.session) → Adds y z (Are y.session)

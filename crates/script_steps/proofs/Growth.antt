@@ -1,5 +1,5 @@
 -- What is sent is added after what was sent before, whatever happens: a packet keeps its number.
-use Rattle.std.proofs.Common.{◌≡◌, ◌==◌, ◌∙◌, ap, refl, sym, subst, ℕ, not, Bool, List, [], ◌∷◌, ◌++◌, Option, Some, None, append-nil, append_assoc, nat_lt, slice_get}
+use Rattle.std.proofs.Common.{◌==◌, ◌∙◌, ap, refl, sym, subst, ℕ, Bool, List, [], ◌++◌, Option, Some, None, append-nil, nat_lt, slice_get}
 use Rattle.wire.specs.declared.actor.ActorId.{ActorId}
 use Rattle.wire.specs.declared.actor.ActorId.TheVariants.{Node, Manager, Map, Server, User}
 use Rattle.wire.specs.declared.packet.Packet.{Packet}
@@ -7,11 +7,11 @@ use Rattle.wire.specs.declared.refusal.Refusal.{Refusal}
 use Rattle.model_streams.specs.declared.event.Event.{Event}
 use Rattle.model_streams.specs.declared.event.Event.TheVariants as events
 use Rattle.model_streams.specs.Outcome.{Outcome}
-use Rattle.model_streams.specs.StreamSystem.{StreamSystem, delivered, delivered_if, happens, is_present, is_request, manager_decides, manager_performs, manager_takes, node_performs, node_takes, restart, stands_in, stop, stops_in}
+use Rattle.model_streams.specs.StreamSystem.{StreamSystem, delivered, delivered_if, happens, is_request, manager_performs, node_performs, restart, stands_in, stop, stops_in}
 use Rattle.model_streams.proofs.Tests.{if_elim}
 use Rattle.model_partition.specs.Map.{MapState, range_at}
-use Rattle.model_partition.specs.MapRules.{assign_fault, assign_rule, map_rule, renew_fault, renew_rule}
-use Rattle.model_partition.specs.Cluster.{Cluster, cluster_after, cluster_after_all, delivered_to, delivers, first_cluster, map_performs, map_performs_if, map_takes, restarts, shows_moment, stops}
+use Rattle.model_partition.specs.MapRules.{assign_fault, assign_rule, renew_fault, renew_rule}
+use Rattle.model_partition.specs.Cluster.{Cluster, cluster_after, cluster_after_all, delivered_to, delivers, first_cluster, map_performs, map_performs_if, restarts, stops}
 use Rattle.world.specs.Cluster.{ClusterSimulates, ClusterState, IsRun}
 use Rattle.script_lines.specs.declared.line.Line.{Line}
 use Rattle.script_lines.specs.declared.line.Line.TheVariants as lines

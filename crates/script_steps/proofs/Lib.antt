@@ -1,3 +1,4 @@
 pub mod Growth
 pub mod Adding
 pub mod Printing
+pub mod EventLines

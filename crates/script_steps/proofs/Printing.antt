@@ -3,11 +3,12 @@ use Rattle.std.proofs.Common.{◌≡◌, ◌∙◌, ◌⊎◌, inl, inr, ap, app
 use Rattle.wire.specs.declared.packet.Packet.{Packet}
 use Rattle.script_lines.specs.declared.line.Line.{Line}
 use Rattle.script_lines.specs.declared.line.Line.TheVariants as lines
-use Rattle.script_run.specs.Playing.{Delivers, DeliversSome, IsFresh, IsSettled, most_deliveries, Plays, PlaysAll, SessionState, Settles}
+use Rattle.script_run.specs.Playing.{DeliversSome, IsFresh, IsSettled, most_deliveries, Plays, PlaysAll, SessionState, Settles}
 use Rattle.script_run.specs.Script.{IsScript, Size, Writes}
 use Rattle.model_partition.specs.Cluster.{first_cluster}
 use Rattle.world.specs.Cluster.{ClusterMirrors}
 use Rattle.script_steps.specs.declared.step.Step.{Step}
+use Rattle.script_steps.proofs.Adding.{only_added}
 use Rattle.script_steps.specs.Steps.{Adds, BeginsAnd, IsOne, Shows, StepSeen, StepsDeliverSome, StepsKept, StepsOf, StepsOfAll, StepsSettle, all_packets, all_printed, post_of, seen, seen_of}
 
 -- ---- what is printed
@@ -55,26 +56,24 @@ line_printed k (lines.Heal actor) s t steps h = one_printed k (lines.Heal actor)
 line_printed k (lines.Show node extent) s t steps h = one_printed k (lines.Show node extent) s t steps h
 line_printed k (lines.Happens event) s t steps h = one_printed k (lines.Happens event) s t steps h
 
-all_lines_printed : (plan : List Line) (s t : SessionState) (steps : List StepSeen) → StepsOfAll plan s steps t → PlaysAll s plan (all_printed steps) t
-all_lines_printed [] s t steps h = (ap all_printed h.0, h.1)
-all_lines_printed (line ∷ more) s t steps h =
-    (h.1, all_printed h.2, all_printed h.3, line_printed h.0 line s h.1 h.2 h.4, all_lines_printed more h.1 t h.3 h.5, ap all_printed h.6 ∙ printed_append h.2 h.3)
+all_lines_printed : (k : ℕ) (plan : List Line) (s t : SessionState) (steps : List StepSeen) → StepsOfAll k plan s steps t → PlaysAll s plan (all_printed steps) t
+all_lines_printed k [] s t steps h = (ap all_printed h.0, h.1)
+all_lines_printed k (line ∷ more) s t steps h =
+    (h.0, all_printed h.1, all_printed h.2, line_printed k line s h.0 h.1 h.3, all_lines_printed (suc k) more h.0 t h.2 h.4, ap all_printed h.5 ∙ printed_append h.1 h.2)
 
 -- the steps of all lines were added to none
 pub shows : (text : List ℕ) (x y : StepsKept) (size : Size) (plan : List Line) → IsScript text size plan → IsFresh x.session
     → ClusterMirrors x.session.run (first_cluster size.nodes size.servers size.target size.batch) → x.steps ≡ []
-    → Adds x y (λ more. StepsOfAll plan x.session more y.session) → Shows text y
-shows text x y size plan is fresh mirrors none added =
-    let all : y.steps ≡ added.more = added.steps ∙ ap (λ (l : List Step). l ++ added.more) none in
-    record {
-      size = size;
-      plan = plan;
-      is = is;
-      first = x.session;
-      fresh = fresh;
-      mirrors = mirrors;
-      steps = subst (λ (l : List Step). StepsOfAll plan x.session (map (seen_of (post_of y.session)) l) y.session) (sym all) added.are;
-    }
+    → Adds x y (λ more. StepsOfAll 0 plan x.session more y.session) → Shows text y
+shows text x y size plan is fresh mirrors none added = record {
+  size = size;
+  plan = plan;
+  is = is;
+  first = x.session;
+  fresh = fresh;
+  mirrors = mirrors;
+  steps = subst (λ (l : List Step). StepsOfAll 0 plan x.session (map (seen_of (post_of y.session)) l) y.session) (sym (only_added x y _ none added)) added.are;
+}
 
 pub all_written : (text : List ℕ) (x : StepsKept) → Shows text x → Writes text (all_printed (seen x))
 all_written text x h = record {
@@ -85,7 +84,7 @@ all_written text x h = record {
   fresh = h.fresh;
   mirrors = h.mirrors;
   last = x.session;
-  plays = all_lines_printed h.plan h.first x.session (seen x) h.steps;
+  plays = all_lines_printed 0 h.plan h.first x.session (seen x) h.steps;
 }
 
 -- ---- what is sent
@@ -143,11 +142,11 @@ line_sends k (lines.Heal actor) s t steps h = one_sends k (lines.Heal actor) s t
 line_sends k (lines.Show node extent) s t steps h = one_sends k (lines.Show node extent) s t steps h
 line_sends k (lines.Happens event) s t steps h = one_sends k (lines.Happens event) s t steps h
 
-all_lines_send : (plan : List Line) (s t : SessionState) (steps : List StepSeen) → StepsOfAll plan s steps t → Sends s steps t
-all_lines_send [] s t steps h = subst (λ (l : List StepSeen). Sends s l t) (sym h.0) (subst (λ (r : SessionState). Sends s [] r) (sym h.1) (sends_none s))
-all_lines_send (line ∷ more) s t steps h =
-    subst (λ (l : List StepSeen). Sends s l t) (sym h.6)
-    (sends_both s h.1 t h.2 h.3 (line_sends h.0 line s h.1 h.2 h.4) (all_lines_send more h.1 t h.3 h.5))
+all_lines_send : (k : ℕ) (plan : List Line) (s t : SessionState) (steps : List StepSeen) → StepsOfAll k plan s steps t → Sends s steps t
+all_lines_send k [] s t steps h = subst (λ (l : List StepSeen). Sends s l t) (sym h.0) (subst (λ (r : SessionState). Sends s [] r) (sym h.1) (sends_none s))
+all_lines_send k (line ∷ more) s t steps h =
+    subst (λ (l : List StepSeen). Sends s l t) (sym h.5)
+    (sends_both s h.0 t h.1 h.2 (line_sends k line s h.0 h.1 h.3) (all_lines_send (suc k) more h.0 t h.2 h.4))
 
 pub all_sent : (text : List ℕ) (x : StepsKept) → Shows text x → all_packets (seen x) ≡ post_of x.session
-all_sent text x h = ap (λ (l : List Packet). l ++ all_packets (seen x)) (sym h.mirrors.stream_layer.post) ∙ sym (all_lines_send h.plan h.first x.session (seen x) h.steps)
+all_sent text x h = ap (λ (l : List Packet). l ++ all_packets (seen x)) (sym h.mirrors.stream_layer.post) ∙ sym (all_lines_send 0 h.plan h.first x.session (seen x) h.steps)

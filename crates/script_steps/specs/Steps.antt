@@ -44,10 +44,11 @@ act_of (lines.Happens event) = act_of_event event
 
 -- ---- what is seen of a step
 
--- the place of its line, what it does, the packets that it sent, and the lines that are printed of it
+-- the place of its line, what it does, the packets that it sent and the number of the first, and the lines that are printed of it
 pub record StepSeen : Type 0 where
   pub line : ℕ
   pub act : Act
+  pub first : ℕ
   pub packets : List Packet
   pub printed : List ℕ
 
@@ -64,8 +65,12 @@ post_of s = s.run.stream_layer.post
 abbrev pub between : List Packet → ℕ → ℕ → List Packet
 between post first end = take (end - first) (drop first post)
 
+-- the packets of the step were sent by then
+abbrev pub IsWithin : List Packet → Step → Type 0
+IsWithin post step = (step.first ≤ step.end) × (step.end ≤ length post)
+
 abbrev pub seen_of : List Packet → Step → StepSeen
-seen_of post step = record { line = step.line; act = step.act; packets = between post step.first step.end; printed = step.printed.items }
+seen_of post step = record { line = step.line; act = step.act; first = step.first; packets = between post step.first step.end; printed = step.printed.items }
 
 -- the steps as they are seen among all packets that were sent
 abbrev pub seen : StepsKept → List StepSeen
@@ -81,10 +86,11 @@ all_printed (step ∷ steps) = step.printed ++ all_printed steps
 
 -- ---- one step: it leads from s to t
 
--- it is of the line at this place and does this, and what it sent are the packets that came since s
+-- it is of the line at this place and does this, and what it sent are the packets that came since s, numbered from there on
 pub record IsStep (k : ℕ) (does : Act) (s : SessionState) (step : StepSeen) (t : SessionState) : Type 0 where
   pub line : step.line ≡ k
   pub act : step.act ≡ does
+  pub first : step.first ≡ length (post_of s)
   pub sends : post_of t ≡ post_of s ++ step.packets
 
 -- packet n is delivered
@@ -137,11 +143,11 @@ StepsOf k lines.Settle s steps t = BeginsAnd k s steps (λ more. StepsSettle k s
 StepsOf k lines.DeliverLast s steps t = BeginsAnd k s steps (λ more. (last : StepSeen) × (more ≡ last ∷ []) × StepDelivers k (length (post_of s) - 1) s last t)
 StepsOf k line s steps t = IsOne k line s steps t
 
--- the steps of all lines, in order
-abbrev pub StepsOfAll : List Line → SessionState → List StepSeen → SessionState → Type 0
-StepsOfAll [] s steps t = (steps ≡ []) × (t ≡ s)
-StepsOfAll (line ∷ more) s steps t =
-    (k : ℕ) × (r : SessionState) × (first : List StepSeen) × (last : List StepSeen) × StepsOf k line s first r × StepsOfAll more r last t × (steps ≡ first ++ last)
+-- the steps of these lines, in order, where the first line is at this place of the script
+abbrev pub StepsOfAll : ℕ → List Line → SessionState → List StepSeen → SessionState → Type 0
+StepsOfAll k [] s steps t = (steps ≡ []) × (t ≡ s)
+StepsOfAll k (line ∷ more) s steps t =
+    (r : SessionState) × (first : List StepSeen) × (last : List StepSeen) × StepsOf k line s first r × StepsOfAll (suc k) more r last t × (steps ≡ first ++ last)
 
 -- these are the steps of the script of this text, and so it has run
 pub record Shows (text : List ℕ) (x : StepsKept) : Type 0 where
@@ -151,17 +157,13 @@ pub record Shows (text : List ℕ) (x : StepsKept) : Type 0 where
   pub first : SessionState
   pub fresh : IsFresh first
   pub mirrors : ClusterMirrors first.run (first_cluster size.nodes size.servers size.target size.batch)
-  pub steps : StepsOfAll plan first (seen x) x.session
+  pub steps : StepsOfAll 0 plan first (seen x) x.session
 
 -- ---- how steps are kept
 
 -- some are added at the end
 abbrev pub Grows : List Packet → List Packet → Type 0
 Grows old new = (more : List Packet) × (new ≡ old ++ more)
-
--- the packets of the step were sent by then
-abbrev pub IsWithin : List Packet → Step → Type 0
-IsWithin post step = (step.first ≤ step.end) × (step.end ≤ length post)
 
 -- from x to y steps are added at the end, and they are such
 pub record Adds (x y : StepsKept) (Are : List StepSeen → Type 0) : Type 0 where

@@ -3,7 +3,7 @@ ghost use Rattle.std.specs.Prelude.{◌≡◌, ◌++◌, ◌∷◌, ◌-◌, [],
 ghost use Rattle.model_partition.specs.Cluster.{first_cluster};
 ghost use Rattle.script_run.specs.Failures.{IsRunFailure};
 ghost use Rattle.script_run.specs.Playing.{IsFresh, Plays};
-ghost use Rattle.script_steps.specs.Steps.{Adds, AddsOne, IsSingle, IsStep, StepBegins, StepDelivers, StepsOf, StepsSettle, act_of, post_of};
+ghost use Rattle.script_steps.specs.Steps.{Adds, AddsOne, IsSingle, IsStep, IsWithin, StepBegins, StepDelivers, StepsOf, StepsSettle, act_of, between, post_of};
 ghost use Rattle.world.specs.Cluster.{ClusterMirrors, IsRun};
 
 use crate::act::{Act, act_of};
@@ -76,8 +76,12 @@ impl Steps {
         self.session.sent()
     }
 
-    /// The packets that a step sent.
-    pub fn sent_by(&self, step: &Step) -> &[Packet] {
+    /// The packets that a step sent; none where its numbers are not of packets that were sent, as in a step of another script.
+    pub fn sent_by(&self, step: &Step) -> &[Packet]
+        ensures sent { IsWithin (post_of self.now.session) step.now
+            → result.now ≡ between (post_of self.now.session) step.now.first step.now.end }
+        ensures none { (IsWithin (post_of self.now.session) step.now → ⊥) → result.now ≡ [] }
+    {
         self.sent().get(step.first..step.end).unwrap_or(&[])
     }
 

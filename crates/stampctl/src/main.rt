@@ -6,9 +6,10 @@
 //!     stampctl run [FILE]                     runs the script of a file
 //!     stampctl trace [FILE]                   runs it, and prints each event with the packets that it sent
 //!     stampctl draw [FILE] [--from N] [--to M]    runs it, and writes a drawing of events N to M, as SVG
+//!     stampctl dump FILE                      prints the records of an actor's record file
 //!     stampctl --help                         tells these, on standard output
 //!
-//! Without FILE the script is that on standard input. A `--` may stand before FILE, so that the file's name may begin with a hyphen. What the words name is told by
+//! Without FILE the script is that on standard input; a record file must be named. A `--` may stand before FILE, so that the file's name may begin with a hyphen. What the words name is told by
 //! `stampctl_words`, and `stampctl_tasks` does it.
 //!
 //! # What it touches
@@ -17,14 +18,15 @@
 //! wrong words, about a line that cannot be read and about a file that cannot to the standard error; it touches nothing else. The disks of nodes, of the manager and of the map are in
 //! memory, and so is the network, so that a script always prints the same. The whole script is read and tested before its
 //! first event runs, and nothing is printed before it has ended: the output is kept in memory until then. Where it does not
-//! fit, the lines so far are printed, and 22 is told.
+//! fit, the lines so far are printed, and 22 is told. A record file is opened for reading alone, and read whole before its first line.
 //!
 //! # Statuses
 //!
-//! - 0: the script ran to its end, or help was asked for.
+//! - 0: the script ran to its end, the file was dumped, or help was asked for.
 //! - 1: a refusal, told by the line `refused N Name` at the end of the output, or the output could not be written. N is
 //!   - 60: the text is no script. The standard error names the first line at which it is none, as `line 2 cannot be read: foo`;
 //!   - 62: the file cannot be read. The standard error gives the system's reason;
+//!   - 21: the file that is to be dumped is no record file;
 //!   - 22: memory ran out.
 //! - 2: wrong words. The standard error says how, and nothing runs.
 //!
@@ -46,7 +48,7 @@
 //! # Tests
 //!
 //! No test reads the standard error; it is looked at by hand. What no clause says of scripts, of runs and of the program's words is tested here, above all that it takes: whole scripts with all
-//! that they print, failing readers and writers, each stop of a run with transactions, words that are read or wrong, and what no
+//! that they print, what drawings show, failing readers and writers, each stop of a run with transactions, words that are read or wrong, and what no
 //! clause of `world_streams` says: that its calls succeed where there is memory, runs of it followed by hand, with clients of streams over
 //! them, and the rows that a loaded table shows. Of these a test goes through cases, each a list of steps in their order: what is
 //! done, with the answer that is wanted, or what is seen then. Scripts that stand as files are run by `tests_rows`.
@@ -61,6 +63,8 @@ mod checkpoint_runs;
 mod checkpoint_scripts;
 #[cfg(test)]
 mod clients;
+#[cfg(test)]
+mod drawings;
 #[cfg(test)]
 mod drill_loads;
 #[cfg(test)]

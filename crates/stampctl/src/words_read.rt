@@ -9,10 +9,11 @@ enum Wanted<'a> {
     Run(Option<&'a str>),
     Trace(Option<&'a str>),
     Draw(Option<&'a str>, Option<u64>, Option<u64>),
+    Dump(&'a str),
     Wrong,
 }
 
-use Wanted::{Draw, Run, Trace, Wrong};
+use Wanted::{Draw, Dump, Run, Trace, Wrong};
 
 /// Words, and the task that they name.
 type Case = (&'static [&'static str], Wanted<'static>);
@@ -64,6 +65,10 @@ const CASES: &[Case] = &[
         &["stampctl", "draw", "a", "--to", "2", "--"],
         Draw(Some("a"), None, Some(2)),
     ),
+    (&["stampctl", "dump", "a"], Dump("a")),
+    (&["stampctl", "dump", "-"], Dump("-")),
+    (&["stampctl", "dump", "--", "-x"], Dump("-x")),
+    (&["stampctl", "dump", "a", "--"], Dump("a")),
     (&["stampctl", "a"], Wrong),
     (&["stampctl", "--", "run"], Wrong),
     (&["stampctl", "storm", "a"], Wrong),
@@ -84,6 +89,11 @@ const CASES: &[Case] = &[
     (&["stampctl", "draw", "--fro", "3"], Wrong),
     (&["stampctl", "draw", "--events", "3"], Wrong),
     (&["stampctl", "draw", "-f", "3"], Wrong),
+    (&["stampctl", "dump"], Wrong),
+    (&["stampctl", "dump", "--"], Wrong),
+    (&["stampctl", "dump", "a", "b"], Wrong),
+    (&["stampctl", "dump", "-x"], Wrong),
+    (&["stampctl", "dump", "a", "--from", "3"], Wrong),
 ];
 
 fn owned(alloc: Global, words: &[&str]) -> Result<Vec<String>, Fail> {
@@ -99,6 +109,7 @@ fn names(alloc: Global, words: &[String], wanted: Wanted<'_>) -> bool {
         Ok(Task::Run(file)) => wanted == Run(file),
         Ok(Task::Trace(file)) => wanted == Trace(file),
         Ok(Task::Draw { file, from, to }) => wanted == Draw(file, from, to),
+        Ok(Task::Dump(file)) => wanted == Dump(file),
         Err(_wrong) => wanted == Wrong,
     }
 }

@@ -7,10 +7,11 @@ ghost use Rattle.clap.specs.declared.error.Error.{Error};
 ghost use Rattle.stampctl_words.specs.declared.named.CommandError.TheVariants.{Memory, WrongWords};
 
 use crate::escaped::Escaped;
-use script_drawing::{Part, write_drawing};
+use memchr::memrchr;
+use record_dump::{BytesFault, dump_bytes};
+use script_drawing::Part;
 use script_lines::lines_of;
 use script_run::{Failure, run_text};
-use script_steps::{event_lines, steps_of, write_trace};
 use stampctl_words::{CommandError, Task};
 use std::alloc::Global;
 use std::fs;
@@ -40,7 +41,7 @@ fn tell<R: Eprint + Print>(rt: &R, error: &clap::Error) -> ExitCode
     }
 }
 
-/// The whole script: of the file, or of the standard input.
+/// The whole text of the file, which is opened for reading alone, or of the standard input.
 fn text_of<R: Files + Input>(
     rt: &R,
     alloc: Global,
@@ -86,14 +87,22 @@ fn tell_line<R: Eprint>(rt: &R, alloc: Global, text: &[u8], number: usize) {
     };
 }
 
-/// Prints what a script wrote, and how it ended. A script that could write no more ended out of memory.
-fn finish<R: Print>(rt: &R, ended: &Result<(), Failure>, written: &[u8]) -> ExitCode
-    ensures refused { IfErr ended.now (λ _. exit_status result ≡ 1) }
+/// What was written, up to its last whole line. Where memory runs out within a line, the line's beginning is not printed.
+fn whole_lines(written: &[u8]) -> &[u8] {
+    match memrchr(b'\n', written) {
+        Some(last) => written.get(..last.saturating_add(1)).unwrap_or(written),
+        None => &[],
+    }
+}
+
+/// Prints the lines that a task wrote, and how it ended.
+fn finish<R: Print>(rt: &R, ended: Result<(), Refusal>, written: &[u8]) -> ExitCode
+    ensures refused { IfErr ended (λ _. exit_status result ≡ 1) }
     ensures told { exit_status result < 2 }
 {
     let mut writer = io::writer(rt);
     if writer
-        .write_all(written)
+        .write_all(whole_lines(written))
         .and_then(|()| writer.flush())
         .is_err()
     {
@@ -101,11 +110,12 @@ fn finish<R: Print>(rt: &R, ended: &Result<(), Failure>, written: &[u8]) -> Exit
     }
     match ended {
         Ok(()) => ExitCode::SUCCESS,
-        Err(failure) => refused(rt, failure.refusal().unwrap_or(Refusal::Memory)),
+        Err(refusal) => refused(rt, refusal),
     }
 }
 
-/// Prints what a script wrote, and how it ended, and where it is none tells the line.
+/// Prints what a script wrote, and how it ended, and where it is none tells the line. A script that could write no more ended out
+/// of memory.
 fn end<R: Eprint + Print>(
     rt: &R,
     alloc: Global,
@@ -113,13 +123,20 @@ fn end<R: Eprint + Print>(
     ended: Result<(), Failure>,
     written: &[u8],
 ) -> ExitCode
-    ensures { exit_status result < 2 }
+    ensures refused { IfErr ended (λ _. exit_status result ≡ 1) }
+    ensures told { exit_status result < 2 }
 {
-    let status = finish(rt, &ended, written);
-    if let Err(Failure::BadScript(number)) = ended {
-        tell_line(rt, alloc, text, number);
+    match ended {
+        Ok(()) => finish(rt, Ok(()), written),
+        Err(failure) => {
+            let refusal = failure.refusal().unwrap_or(Refusal::Memory);
+            let status = finish(rt, Err(refusal), written);
+            if let Failure::BadScript(number) = failure {
+                tell_line(rt, alloc, text, number);
+            }
+            status
+        }
     }
-    status
 }
 
 /// Runs the script over bytes in memory, so that what `run_text` promises is said of this very call.
@@ -133,25 +150,6 @@ fn run<R: Eprint + Files + Input + Print>(rt: &R, alloc: Global, path: Option<&s
     let mut written = Vec::new(alloc);
     let ended = run_text(alloc, &mut text, &mut written);
     end(rt, alloc, &text, ended, &written)
-}
-
-/// Writes the trace of the script of this text.
-fn write_trace_of(alloc: Global, text: &[u8], written: &mut Vec<u8>) -> Result<(), Failure> {
-    let steps = steps_of(alloc, text)?;
-    let lines = event_lines(alloc, text)?;
-    write_trace(&steps, lines.as_slice(), written).map_err(Failure::Output)
-}
-
-/// Writes the drawing of a part of the script of this text.
-fn write_drawing_of(
-    alloc: Global,
-    text: &[u8],
-    part: Part,
-    written: &mut Vec<u8>,
-) -> Result<(), Failure> {
-    let steps = steps_of(alloc, text)?;
-    let lines = event_lines(alloc, text)?;
-    write_drawing(alloc, &steps, lines.as_slice(), part, written)
 }
 
 /// The events from one to another, which are the first and the last where none is named.
@@ -171,7 +169,7 @@ fn trace<R: Eprint + Files + Input + Print>(rt: &R, alloc: Global, path: Option<
         Err(error) => return unread(rt, path, error),
     };
     let mut written = Vec::new(alloc);
-    let ended = write_trace_of(alloc, &text, &mut written);
+    let ended = script_steps::trace(alloc, &text, &mut written);
     end(rt, alloc, &text, ended, &written)
 }
 
@@ -189,13 +187,38 @@ fn draw<R: Eprint + Files + Input + Print>(
         Err(error) => return unread(rt, path, error),
     };
     let mut written = Vec::new(alloc);
-    let ended = write_drawing_of(alloc, &text, part, &mut written);
+    let ended = script_drawing::draw(alloc, &text, part, &mut written);
     end(rt, alloc, &text, ended, &written)
+}
+
+/// The refusal that is told of bytes that were not dumped. Where a line found no room, memory ran out.
+fn dump_refusal(fault: BytesFault) -> Refusal
+    ensures damaged { fault ≡ BytesFault.Damaged → result ≡ Refusal.Damaged }
+    ensures memory { fault ≢ BytesFault.Damaged → result ≡ Refusal.Memory }
+{
+    match fault {
+        BytesFault::Damaged => Refusal::Damaged,
+        BytesFault::Memory | BytesFault::Output(_) => Refusal::Memory,
+    }
+}
+
+/// Prints the records of a record file, which is opened for reading alone.
+fn dump<R: Eprint + Files + Input + Print>(rt: &R, alloc: Global, path: &str) -> ExitCode
+    ensures { exit_status result < 2 }
+{
+    let bytes = match text_of(rt, alloc, Some(path)) {
+        Ok(bytes) => bytes,
+        Err(error) => return unread(rt, Some(path), error),
+    };
+    let mut written = Vec::new(alloc);
+    let ended = dump_bytes(alloc, bytes, &mut written).map_err(dump_refusal);
+    finish(rt, ended, &written)
 }
 
 /// Performs a task, or tells why the words name none, and answers the status to end with. A script ends in 0 where it ran to
 /// its end, and in 1 where it was refused or what it wrote could not be printed; where a text is no script the standard error
-/// names the line, and where a file could not be read the reason. Where memory for the words ran out it is 1; wrong words are
+/// names the line, and where a file could not be read the reason. A record file that is dumped ends in 0, or in 1 where it could not
+/// be read, is none, or its lines could not be printed; it is never written to. Where memory for the words ran out it is 1; wrong words are
 /// told on the standard error and end in 2, and help that was asked for in 0, or in 1 where it could not be printed.
 pub fn perform<R: Eprint + Files + Input + Print>(
     rt: &R,
@@ -213,6 +236,7 @@ pub fn perform<R: Eprint + Files + Input + Print>(
         Ok(Task::Run(path)) => run(rt, alloc, path),
         Ok(Task::Trace(path)) => trace(rt, alloc, path),
         Ok(Task::Draw { file, from, to }) => draw(rt, alloc, file, part_of(from, to)),
+        Ok(Task::Dump(path)) => dump(rt, alloc, path),
         Err(CommandError::Memory) => refused(rt, Refusal::Memory),
         Err(CommandError::WrongWords(error)) => tell(rt, &error),
     }

@@ -1,45 +1,78 @@
 -- Which call the words name, by what was found after the subcommand's name.
-use Rattle.std.proofs.Common.{◌≡◌, ◌∙◌, ◌<◌, ◌^◌, ℕ, Bool, codes, true, false, refl, sym, subst, inl, inr, List, ◌∷◌, Option, Some, None, Result, Ok, Err}
+use Rattle.std.proofs.Common.{◌≡◌, ◌∙◌, ◌<◌, ◌^◌, ℕ, Bool, codes, true, false, refl, ap, sym, subst, inl, inr, arith, List, ◌∷◌, Option, Some, None, is_some, slice_index, Result, Ok, Err}
 use Rattle.std.specs.Str.Parse.{ParsesUnsigned}
+use Rattle.std.proofs.lemmas.Bool.{true≢false}
 use Rattle.clap.specs.Matches.{ReadsOne}
 use Rattle.clap.specs.Walk.{Row, Text, first_of}
-use Rattle.stampctl_words.specs.Words.{Adds, Arguments, Draw, Draws, MayBeFile, Names, Run, Runs, Trace, Traces, no_arguments}
+use Rattle.stampctl_words.specs.Words.{Adds, Arguments, Draw, Draws, Dump, Dumps, MayBeFile, Names, Run, Runs, Trace, Traces, no_arguments}
 use Rattle.stampctl_words.proofs.RowLemmas.{Holds, IsRead}
 use Rattle.stampctl_words.proofs.WordLemmas.{Called, IsNamed}
+
+draw_no_dump : codes "draw" ≡ codes "dump" → ⊥
+draw_no_dump e = let second : ◌≡◌ {A = ℕ} 114 117 = ap (λ (t : Text). slice_index t 1) e in absurd (omega arith)
 
 -- a subcommand of a file alone
 module _ (words : List Text) (rows : List Row) (file : Option Text) (is : file ≡ first_of (codes "file") rows) where
   pub called_trace : Called words (codes "trace") rows → Names MayBeFile words (Trace file)
-  called_trace called = go called.has_options called.named called.adds
+  called_trace called = go called.needs_file called.has_options called.named called.adds
     where
-      go : (b : Bool) → IsNamed b (codes "trace") → Adds MayBeFile b called.rest no_arguments called.arguments → Names MayBeFile words (Trace file)
-      go true named adds = let bad : codes "trace" ≡ codes "draw" = named in cc
-      go false named adds =
+      go : (needs_file has_options : Bool) → IsNamed needs_file has_options (codes "trace") → Adds MayBeFile has_options called.rest no_arguments called.arguments → Names MayBeFile words (Trace file)
+      go true true named adds = absurd named
+      go true false named adds = let bad : codes "trace" ≡ codes "dump" = named in cc
+      go false true named adds = let bad : codes "trace" ≡ codes "draw" = named in cc
+      go false false named adds =
           subst (λ (ws : List Text). Names MayBeFile ws (Trace file)) (sym called.is)
           (subst (λ (o : Option Text). Names MayBeFile (codes "trace" ∷ called.rest) (Trace o)) (sym called.holds.file ∙ sym is) (Traces called.rest called.arguments adds))
 
-  pub called_run : (name : Text) → (name ≡ codes "trace" → ⊥) → (name ≡ codes "draw" → ⊥) → Called words name rows → Names MayBeFile words (Run file)
-  called_run name no_trace no_draw called = go called.has_options called.named called.adds
+  pub called_run : (name : Text) → (name ≡ codes "trace" → ⊥) → (name ≡ codes "draw" → ⊥) → (name ≡ codes "dump" → ⊥) → Called words name rows → Names MayBeFile words (Run file)
+  called_run name no_trace no_draw no_dump called = go called.needs_file called.has_options called.named called.adds
     where
-      go : (b : Bool) → IsNamed b name → Adds MayBeFile b called.rest no_arguments called.arguments → Names MayBeFile words (Run file)
-      go true named adds = absurd (no_draw named)
-      go false (inr named) adds = absurd (no_trace named)
-      go false (inl named) adds =
+      go : (needs_file has_options : Bool) → IsNamed needs_file has_options name → Adds MayBeFile has_options called.rest no_arguments called.arguments → Names MayBeFile words (Run file)
+      go true true named adds = absurd named
+      go true false named adds = absurd (no_dump named)
+      go false true named adds = absurd (no_draw named)
+      go false false (inr named) adds = absurd (no_trace named)
+      go false false (inl named) adds =
           subst (λ (ws : List Text). Names MayBeFile ws (Run file)) (sym (subst (λ (t : Text). words ≡ t ∷ called.rest) named called.is))
           (subst (λ (o : Option Text). Names MayBeFile (codes "run" ∷ called.rest) (Run o)) (sym called.holds.file ∙ sym is) (Runs called.rest called.arguments adds))
 
 pub called_draw : (words : List Text) (rows : List Row) (b : Arguments) → ((a : Arguments) → Holds rows a → (b.file ≡ a.file) × (b.from ≡ a.from) × (b.to ≡ a.to))
     → Called words (codes "draw") rows → Names MayBeFile words (Draw b)
-called_draw words rows b same called = go called.has_options called.named called.adds
+called_draw words rows b same called = go called.needs_file called.has_options called.named called.adds
   where
-    go : (has_options : Bool) → IsNamed has_options (codes "draw") → Adds MayBeFile has_options called.rest no_arguments called.arguments → Names MayBeFile words (Draw b)
-    go false (inl named) adds = let bad : codes "draw" ≡ codes "run" = named in cc
-    go false (inr named) adds = let bad : codes "draw" ≡ codes "trace" = named in cc
-    go true named adds =
+    go : (needs_file has_options : Bool) → IsNamed needs_file has_options (codes "draw") → Adds MayBeFile has_options called.rest no_arguments called.arguments → Names MayBeFile words (Draw b)
+    go true true named adds = absurd named
+    go true false named adds = absurd (draw_no_dump named)
+    go false false (inl named) adds = let bad : codes "draw" ≡ codes "run" = named in cc
+    go false false (inr named) adds = let bad : codes "draw" ≡ codes "trace" = named in cc
+    go false true named adds =
         let parts = same called.arguments called.holds in
         let is : ◌≡◌ {A = Arguments} b called.arguments = λ i. record { file = parts.0 i; from = parts.1 i; to = parts.2 i } in
         subst (λ (ws : List Text). Names MayBeFile ws (Draw b)) (sym called.is)
         (subst (λ (a : Arguments). Names MayBeFile (codes "draw" ∷ called.rest) (Draw a)) (sym is) (Draws called.rest called.arguments adds))
+
+-- the subcommand that needs a file has one
+module _ (words : List Text) (rows : List Row) (called : Called words (codes "dump") rows) where
+  abbrev IsDump : Bool → Bool → Type 0
+  IsDump needs_file has_options = (needs_file ≡ true) × (has_options ≡ false)
+
+  named_dump : (needs_file has_options : Bool) → IsNamed needs_file has_options (codes "dump") → IsDump needs_file has_options
+  named_dump true true named = absurd named
+  named_dump true false named = (refl, refl)
+  named_dump false true named = absurd (draw_no_dump (sym named))
+  named_dump false false (inl named) = let bad : codes "dump" ≡ codes "run" = named in cc
+  named_dump false false (inr named) = let bad : codes "dump" ≡ codes "trace" = named in cc
+
+  abbrev is_dump : IsDump called.needs_file called.has_options
+  is_dump = named_dump called.needs_file called.has_options called.named
+
+  pub dump_has_file : None ≡ first_of (codes "file") rows → ⊥
+  dump_has_file none = true≢false (sym (called.has_file is_dump.0) ∙ sym (ap is_some (none ∙ called.holds.file)))
+
+  pub called_dump : (file : Text) → Some file ≡ first_of (codes "file") rows → Names MayBeFile words (Dump file)
+  called_dump file is =
+      subst (λ (ws : List Text). Names MayBeFile ws (Dump file)) (sym called.is)
+      (Dumps called.rest called.arguments file (subst (λ (b : Bool). Adds MayBeFile b called.rest no_arguments called.arguments) is_dump.1 called.adds) (sym called.holds.file ∙ sym is))
 
 -- what `get_one` reads of an option's text
 pub number_is : {E : Type 0} (G : Text → Result ℕ E → Type 0) → ((t : Text) (r : Result ℕ E) → G t r → ParsesUnsigned 64 10 t r)

@@ -65,31 +65,31 @@ adds_option has_options id known v rows a holds fits = elim known.1 [
           joined = λ rest e more. ToJoined a e v n rest known.0 first new.1 more;
         }
 
-module _ (has_options : Bool) (name : Text) where
+module _ (needs_file has_options : Bool) (name : Text) where
   abbrev s : Shape
-  s = leaf has_options name
+  s = leaf needs_file has_options name
 
   -- what is found at the end of the words
   abbrev pub end_rows : Walk → List Text → List Row
-  end_rows w words = finished (rules has_options) (fold (walked (rules has_options) []) w words).held
+  end_rows w words = finished (rules needs_file has_options) (fold (walked (rules needs_file has_options) []) w words).held
 
   abbrev Settles : List Row → Option (Text × List Text) → Type 0
-  Settles rows pending = settle_fault (rules has_options) false (held rows pending) ≡ []
+  Settles rows pending = settle_fault (rules needs_file has_options) false (held rows pending) ≡ []
 
   abbrev settled_at : List Row → Option (Text × List Text) → List Row
-  settled_at rows pending = settled_rows (rules has_options) pending rows
+  settled_at rows pending = settled_rows (rules needs_file has_options) pending rows
 
   -- the words add to the arguments that the rows hold those that are found at the end of what is left of them
   abbrev Read : List Text → List Row → ℕ → Walk → List Text → Type 0
   Read words rows position w left = (a : Arguments) → Holds rows a → position ≡ place a → (e : Arguments) × Adds MayBeFile has_options words a e × Holds (end_rows w left) e
 
-  ended : (rows : List Row) (a : Arguments) → Holds rows a → Holds (finished (rules has_options) (held rows None)) a
-  ended rows a holds = subst (λ (xs : List Row). Holds xs a) (sym (no_defaults has_options rows)) holds
+  pub ended : (rows : List Row) (a : Arguments) → Holds rows a → Holds (finished (rules needs_file has_options) (held rows None)) a
+  ended rows a holds = subst (λ (xs : List Row). Holds xs a) (sym (no_defaults needs_file has_options rows)) holds
 
   -- ---- after `--`
 
   trailing_second : (rows : List Row) (pending : Option (Text × List Text)) (waiting : Waiting) (word : Text) (rest : List Text) → faults s (state rows pending waiting 2 true) (word ∷ rest) ≡ [] → ⊥
-  trailing_second rows pending waiting word rest e = stray has_options name rows pending waiting word (faults_step s (state rows pending waiting 2 true) word rest e).0
+  trailing_second rows pending waiting word rest e = stray needs_file has_options name rows pending waiting word (faults_step s (state rows pending waiting 2 true) word rest e).0
 
   trailing_file : (rest : List Text) (rows : List Row) (word : Text) (w : Walk) → w ≡ state rows (Some (codes "file", word ∷ [])) idle 2 true → faults s w rest ≡ []
       → (a : Arguments) → Holds rows a → (e : Arguments) × Adds MayBeFile has_options (dashes ∷ word ∷ rest) a e × Holds (end_rows w rest) e
@@ -109,8 +109,8 @@ module _ (has_options : Bool) (name : Text) where
   unfolding walked
   trailing_first rows pending waiting word rest e =
       let step = faults_step s (state rows pending waiting 1 true) word rest e in (
-        sym (file_fault has_options name rows pending waiting word) ∙ step.0,
-        λ a holds at. trailing_file rest (settled_at rows pending) word (walked (rules has_options) [] (state rows pending waiting 1 true) word) (file_moved has_options name rows pending waiting word true) step.1 a holds,
+        sym (file_fault needs_file has_options name rows pending waiting word) ∙ step.0,
+        λ a holds at. trailing_file rest (settled_at rows pending) word (walked (rules needs_file has_options) [] (state rows pending waiting 1 true) word) (file_moved needs_file has_options name rows pending waiting word true) step.1 a holds,
       )
 
   trailing : (rest : List Text) (rows : List Row) (pending : Option (Text × List Text)) (waiting : Waiting) (position : ℕ) → IsPlace position → faults s (state rows pending waiting position true) rest ≡ []
@@ -138,20 +138,20 @@ module _ (has_options : Bool) (name : Text) where
 
   file_seen : (word : Text) (rest : List Text) → ReadsIdle rest → (rows : List Row) (pending : Option (Text × List Text)) (position : ℕ) → IsPlace position → MayBeFile word
       → step_fault s position (held rows pending) value ≡ []
-      → (w : Walk) → w ≡ after_step (rules has_options) word (state rows pending idle position false) (held rows pending) value → faults s w rest ≡ []
+      → (w : Walk) → w ≡ after_step (rules needs_file has_options) word (state rows pending idle position false) (held rows pending) value → faults s w rest ≡ []
       → Settles rows pending × Read (word ∷ rest) (settled_at rows pending) position w rest
   file_seen word rest reads rows pending position at is fits w moved e = elim at [
     | inl one ↦
         let on : w ≡ state (settled_at rows pending) (Some (codes "file", word ∷ [])) idle 2 false =
-        moved ∙ ap (λ (p : ℕ). after_step (rules has_options) word (state rows pending idle p false) (held rows pending) value) one ∙ file_moved has_options name rows pending idle word false in
+        moved ∙ ap (λ (p : ℕ). after_step (rules needs_file has_options) word (state rows pending idle p false) (held rows pending) value) one ∙ file_moved needs_file has_options name rows pending idle word false in
         let rec = reads (settled_at rows pending) (Some (codes "file", word ∷ [])) 2 (inr refl) (subst (λ (v : Walk). faults s v rest ≡ []) on e) in
         let none = file_new (settled_at rows pending) word rec.0 in (
-          sym (file_fault has_options name rows pending idle word) ∙ subst (λ (p : ℕ). step_fault s p (held rows pending) value ≡ []) one fits,
+          sym (file_fault needs_file has_options name rows pending idle word) ∙ subst (λ (p : ℕ). step_fault s p (held rows pending) value ≡ []) one fits,
           λ a holds place_is.
               let end = rec.1 (record a { file = Some word }) (holds_file (settled_at rows pending) a word holds none) refl in
               (end.0, File a end.0 word rest (absent a.file _ holds.has_file none) is end.1, subst (λ (v : Walk). Holds (end_rows v rest) end.0) (sym on) end.2),
         )
-    | inr two ↦ absurd (stray has_options name rows pending idle word (subst (λ (p : ℕ). step_fault s p (held rows pending) value ≡ []) two fits))
+    | inr two ↦ absurd (stray needs_file has_options name rows pending idle word (subst (λ (p : ℕ). step_fault s p (held rows pending) value ≡ []) two fits))
   ]
 
   idle_seen : (word : Text) (rest : List Text) → ReadsIdle rest → ReadsValue rest → (rows : List Row) (pending : Option (Text × List Text)) (position : ℕ) → IsPlace position
@@ -193,37 +193,37 @@ module _ (has_options : Bool) (name : Text) where
       → (w : Walk) → Seen s (IsOption has_options) rows (Some (id, [])) (option id) position word w → faults s w rest ≡ []
       → (use_fault false (event_read id) (word ∷ []) rows ≡ []) × Read rest (used (event_read id) (word ∷ []) rows) position w rest
   value_seen word rest reads id known rows position at w (SeenDashes is moved) e =
-      absurd (unsettled has_options name id known rows position (trailing rest rows (Some (id, [])) (option id) position at (subst (λ (v : Walk). faults s v rest ≡ []) moved e)).0)
+      absurd (unsettled needs_file has_options name id known rows position (trailing rest rows (Some (id, [])) (option id) position at (subst (λ (v : Walk). faults s v rest ≡ []) moved e)).0)
   value_seen word rest reads id known rows position at w (SeenValue is fits moved) e =
-      let on : w ≡ state rows (Some (id, word ∷ [])) idle position false = moved ∙ value_moved has_options name id known rows position word in
+      let on : w ≡ state rows (Some (id, word ∷ [])) idle position false = moved ∙ value_moved needs_file has_options name id known rows position word in
       let rec = reads rows (Some (id, word ∷ [])) position at (subst (λ (v : Walk). faults s v rest ≡ []) on e) in (
-        sym (value_fault has_options name id known rows position word) ∙ rec.0,
+        sym (value_fault needs_file has_options name id known rows position word) ∙ rec.0,
         subst (λ (v : Walk). Read rest (used (event_read id) (word ∷ []) rows) position v rest) (sym on)
-            (subst (λ (xs : List Row). Read rest xs position (state rows (Some (id, word ∷ [])) idle position false) rest) (value_rows has_options name id known rows position word) rec.1),
+            (subst (λ (xs : List Row). Read rest xs position (state rows (Some (id, word ∷ [])) idle position false) rest) (value_rows needs_file has_options name id known rows position word) rec.1),
       )
-  value_seen word rest reads id known rows position at w (SeenOption other named is settles moved) e = absurd (unsettled has_options name id known rows position settles)
-  value_seen word rest reads id known rows position at w (SeenJoined other v named is settles fits moved) e = absurd (unsettled has_options name id known rows position settles)
+  value_seen word rest reads id known rows position at w (SeenOption other named is settles moved) e = absurd (unsettled needs_file has_options name id known rows position settles)
+  value_seen word rest reads id known rows position at w (SeenJoined other v named is settles fits moved) e = absurd (unsettled needs_file has_options name id known rows position settles)
 
   reads_both : (words : List Text) → ReadsIdle words × ReadsValue words
   reads_both [] = (
     λ rows pending position at e.
         (sym (faults_end s (state rows pending idle position false)) ∙ e, λ a holds place_is. (a, NoWords a, ended (settled_at rows pending) a holds)),
-    λ id known rows position at e. absurd (unsettled has_options name id known rows position (sym (faults_end s (state rows (Some (id, [])) (option id) position false)) ∙ e)),
+    λ id known rows position at e. absurd (unsettled needs_file has_options name id known rows position (sym (faults_end s (state rows (Some (id, [])) (option id) position false)) ∙ e)),
   )
   reads_both (word ∷ rest) =
       let rec = reads_both rest in (
         λ rows pending position at e.
             let step = faults_step s (state rows pending idle position false) word rest e in
-            idle_seen word rest rec.0 rec.1 rows pending position at (walked (rules has_options) [] (state rows pending idle position false) word)
-            (seen s [] rows pending idle position word refl (IsOption has_options) (longs has_options name) (shorts has_options name) step.0) step.1,
+            idle_seen word rest rec.0 rec.1 rows pending position at (walked (rules needs_file has_options) [] (state rows pending idle position false) word)
+            (seen s [] rows pending idle position word refl (IsOption has_options) (longs needs_file has_options name) (shorts needs_file has_options name) step.0) step.1,
         λ id known rows position at e.
             let step = faults_step s (state rows (Some (id, [])) (option id) position false) word rest e in
-            let got = value_seen word rest rec.0 id known rows position at (walked (rules has_options) [] (state rows (Some (id, [])) (option id) position false) word)
-            (seen s [] rows (Some (id, [])) (option id) position word refl (IsOption has_options) (longs has_options name) (shorts has_options name) step.0) step.1 in
+            let got = value_seen word rest rec.0 id known rows position at (walked (rules needs_file has_options) [] (state rows (Some (id, [])) (option id) position false) word)
+            (seen s [] rows (Some (id, [])) (option id) position word refl (IsOption has_options) (longs needs_file has_options name) (shorts needs_file has_options name) step.0) step.1 in
             (word, rest, refl, got.0, got.1),
       )
 
   -- from a subcommand's name on
   pub reads : (words : List Text) → faults s (state [] None idle 1 false) words ≡ []
       → (a : Arguments) × Adds MayBeFile has_options words no_arguments a × Holds (end_rows (state [] None idle 1 false) words) a
-  reads words e = ((reads_both words).0 [] None 1 (inl refl) e).1 no_arguments (record { file = refl; has_file = refl; from = tt; has_from = refl; to = tt; has_to = refl }) refl
+  reads words e = ((reads_both words).0 [] None 1 (inl refl) e).1 no_arguments (record { file = refl; has_file = refl; given = refl; from = tt; has_from = refl; to = tt; has_to = refl }) refl

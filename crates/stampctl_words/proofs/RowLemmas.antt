@@ -1,7 +1,10 @@
 -- What is found of each argument of a subcommand, once one more value stands at the end.
 use Rattle.std.proofs.Common.{◌≡◌, ◌∙◌, ◌++◌, ◌||◌, ℕ, Bool, cond, codes, true, false, refl, sym, ap, subst, List, [], ◌∷◌, Option, Some, None, append-nil, find, is_some, option_and_then, slice_get, bytes_eq}
 use Rattle.std.specs.List.{list_any}
+use Rattle.std.specs.Option.{option_map_or}
 use Rattle.std.proofs.lemmas.Bool.{or_parts}
+use Rattle.clap.specs.Facts.{explicit_source}
+use Rattle.clap.specs.Takes.{is_given}
 use Rattle.clap.specs.Walk.{Row, Rule, Text, at_row, first_of, has_row, more_values, one_of, row_text, used, with_values, without}
 use Rattle.clap.specs.Simple.{filled, with_index}
 use Rattle.clap.specs.declared.builder.value_parser.Reading.TheVariants.{AsWritten}
@@ -66,10 +69,15 @@ IsRead _ _ = ⊥
 pub record Holds (rows : List Row) (a : Arguments) : Type 0 where
   pub file : first_of (codes "file") rows ≡ a.file
   pub has_file : has_row (codes "file") rows ≡ is_some a.file
+  pub given : is_given (codes "file") rows ≡ is_some a.file
   pub from : IsRead (one_of (codes "from") rows) a.from
   pub has_from : has_row (codes "from") rows ≡ is_some a.from
   pub to : IsRead (one_of (codes "to") rows) a.to
   pub has_to : has_row (codes "to") rows ≡ is_some a.to
+
+-- whether the row that was found, if one was, is of a word
+abbrev is_explicit : Option Row → Bool
+is_explicit o = option_map_or (λ (r : Row). explicit_source r.source) o false
 
 abbrev has_id : Text → Row → Bool
 has_id id r = bytes_eq r.id id
@@ -80,6 +88,7 @@ holds_file rows a word h none =
     subst (λ (xs : List Row). Holds xs (record a { file = Some word })) (sym more) (record {
       file = ap (option_and_then (λ (r : Row). slice_get r.values 0)) (find_last (has_id (codes "file")) rows (one_row (codes "file") word) none refl);
       has_file = any_more (has_id (codes "file")) rows (one_row (codes "file") word);
+      given = ap is_explicit (find_last (has_id (codes "file")) rows (one_row (codes "file") word) none refl);
       from = subst (λ (o : Option Row). IsRead (option_and_then row_text o) a.from) (sym (find_other (has_id (codes "from")) rows (one_row (codes "file") word) refl)) h.from;
       has_from = any_more (has_id (codes "from")) rows (one_row (codes "file") word) ∙ h.has_from;
       to = subst (λ (o : Option Row). IsRead (option_and_then row_text o) a.to) (sym (find_other (has_id (codes "to")) rows (one_row (codes "file") word) refl)) h.to;
@@ -93,6 +102,7 @@ holds_from rows a word n number h none =
     subst (λ (xs : List Row). Holds xs (record a { from = Some n })) (sym more) (record {
       file = ap (option_and_then (λ (r : Row). slice_get r.values 0)) (find_other (has_id (codes "file")) rows (one_row (codes "from") word) refl) ∙ h.file;
       has_file = any_more (has_id (codes "file")) rows (one_row (codes "from") word) ∙ h.has_file;
+      given = ap is_explicit (find_other (has_id (codes "file")) rows (one_row (codes "from") word) refl) ∙ h.given;
       from = subst (λ (o : Option Row). IsRead (option_and_then row_text o) (Some n)) (sym (find_last (has_id (codes "from")) rows (one_row (codes "from") word) none refl)) number;
       has_from = any_more (has_id (codes "from")) rows (one_row (codes "from") word);
       to = subst (λ (o : Option Row). IsRead (option_and_then row_text o) a.to) (sym (find_other (has_id (codes "to")) rows (one_row (codes "from") word) refl)) h.to;
@@ -106,6 +116,7 @@ holds_to rows a word n number h none =
     subst (λ (xs : List Row). Holds xs (record a { to = Some n })) (sym more) (record {
       file = ap (option_and_then (λ (r : Row). slice_get r.values 0)) (find_other (has_id (codes "file")) rows (one_row (codes "to") word) refl) ∙ h.file;
       has_file = any_more (has_id (codes "file")) rows (one_row (codes "to") word) ∙ h.has_file;
+      given = ap is_explicit (find_other (has_id (codes "file")) rows (one_row (codes "to") word) refl) ∙ h.given;
       from = subst (λ (o : Option Row). IsRead (option_and_then row_text o) a.from) (sym (find_other (has_id (codes "from")) rows (one_row (codes "to") word) refl)) h.from;
       has_from = any_more (has_id (codes "from")) rows (one_row (codes "to") word) ∙ h.has_from;
       to = subst (λ (o : Option Row). IsRead (option_and_then row_text o) (Some n)) (sym (find_last (has_id (codes "to")) rows (one_row (codes "to") word) none refl)) number;

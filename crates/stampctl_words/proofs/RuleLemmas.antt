@@ -1,4 +1,5 @@
--- The rules of a subcommand with a file and, if it draws, two options; and how each of its words is walked.
+-- The rules of a subcommand with a file, which may be left out unless `needs_file`, and, if it draws, two options; and how each of its words is
+-- walked.
 use Rattle.std.proofs.Common.{◌≡◌, ◌∙◌, ◌&&◌, ◌||◌, ◌⊎◌, ◌<◌, ◌≤◌, ◌^◌, ℕ, Bool, cond, codes, true, false, not, refl, sym, ap, ap₂, subst, inl, inr, arith, List, [], ◌∷◌, Option, Some, None, bytes_eq, fold, nat_lt}
 use Rattle.std.specs.Str.Parse.{digits_value, without_leading_plus}
 use Rattle.std.proofs.lemmas.Slice.Eq.{bytes_eq-Decides}
@@ -27,12 +28,12 @@ abbrev options : Bool → List Rule
 options false = help_read ∷ []
 options true = event_read (codes "from") ∷ event_read (codes "to") ∷ help_read ∷ []
 
-abbrev pub rules : Bool → List Rule
-rules has_options = file_read ∷ options has_options
+abbrev pub rules : Bool → Bool → List Rule
+rules needs_file has_options = record file_read { required = needs_file } ∷ options has_options
 
-abbrev pub leaf : Bool → Text → Shape
-leaf has_options name = record (new_shape name) {
-  rules = rules has_options;
+abbrev pub leaf : Bool → Bool → Text → Shape
+leaf needs_file has_options name = record (new_shape name) {
+  rules = rules needs_file has_options;
   is_built = true;
   disable_help_subcommand = true;
 }
@@ -69,27 +70,27 @@ and_no : (x : Bool) → (x && false) ≡ false
 and_no true = refl
 and_no false = refl
 
-pub shorts : (has_options : Bool) (name : Text) (x : ℕ) (rest : Text) (h : Held) (on : Held → Kinds) → short_fault (rules has_options) false (arg_by_short (rules has_options) x) rest h on ≡ [] → ⊥
-shorts false name x rest h on e = refuses_short (rules false) x rest h on e
-shorts true name x rest h on e = refuses_short (rules true) x rest h on e
+pub shorts : (needs_file has_options : Bool) (name : Text) (x : ℕ) (rest : Text) (h : Held) (on : Held → Kinds) → short_fault (rules needs_file has_options) false (arg_by_short (rules needs_file has_options) x) rest h on ≡ [] → ⊥
+shorts needs_file false name x rest h on e = refuses_short (rules needs_file false) x rest h on e
+shorts needs_file true name x rest h on e = refuses_short (rules needs_file true) x rest h on e
 
 -- the rule that a name names, by whether it is one option or the other
 abbrev long_of_two : Text → Bool → Bool → Option Rule
 long_of_two id is_from is_to =
     cond (is_from || false) (Some (event_read (codes "from"))) (cond (is_to || false) (Some (event_read (codes "to"))) (cond (has_long help_read id) (Some help_read) None))
 
-pub longs : (has_options : Bool) (name id : Text) → Long (leaf has_options name) (IsOption has_options) id
-longs false name id = Refuses (refuses_long (rules false) id)
-longs true name id = from (bytes_eq (codes "from") id) refl
+pub longs : (needs_file has_options : Bool) (name id : Text) → Long (leaf needs_file has_options name) (IsOption has_options) id
+longs needs_file false name id = Refuses (refuses_long (rules needs_file false) id)
+longs needs_file true name id = from (bytes_eq (codes "from") id) refl
   where
-    to : bytes_eq (codes "from") id ≡ false → (is_to : Bool) → bytes_eq (codes "to") id ≡ is_to → Long (leaf true name) (IsOption true) id
+    to : bytes_eq (codes "from") id ≡ false → (is_to : Bool) → bytes_eq (codes "to") id ≡ is_to → Long (leaf needs_file true name) (IsOption true) id
     to no_from true same =
         let is : codes "to" ≡ id = same_word (codes "to") id same in
         Knows (refl, inr (sym is)) (ap₂ (long_of_two id) no_from same ∙ ap (λ (t : Text). Some (event_read t)) is)
     to no_from false no_to =
-        Refuses (λ attached h e. refuses_long (rules true) id attached h (subst (λ (o : Option Rule). long_fault (rules true) false o attached h ≡ []) (ap₂ (long_of_two id) no_from no_to) e))
+        Refuses (λ attached h e. refuses_long (rules needs_file true) id attached h (subst (λ (o : Option Rule). long_fault (rules needs_file true) false o attached h ≡ []) (ap₂ (long_of_two id) no_from no_to) e))
 
-    from : (is_from : Bool) → bytes_eq (codes "from") id ≡ is_from → Long (leaf true name) (IsOption true) id
+    from : (is_from : Bool) → bytes_eq (codes "from") id ≡ is_from → Long (leaf needs_file true name) (IsOption true) id
     from true same =
         let is : codes "from" ≡ id = same_word (codes "from") id same in
         Knows (refl, inl (sym is)) (ap (λ (d : Bool). long_of_two id d (bytes_eq (codes "to") id)) same ∙ ap (λ (t : Text). Some (event_read t)) is)
@@ -97,22 +98,22 @@ longs true name id = from (bytes_eq (codes "from") id) refl
 
 -- ---- its rules by name and by place
 
-pub option_named : (has_options : Bool) (id : Text) → IsOption has_options id
-    → (arg_by_id (rules has_options) id ≡ Some (event_read id)) × (arg_by_long (rules has_options) id ≡ Some (event_read id))
-option_named has_options id known =
-    subst (λ (b : Bool). (arg_by_id (rules b) id ≡ Some (event_read id)) × (arg_by_long (rules b) id ≡ Some (event_read id))) (sym known.0)
+pub option_named : (needs_file has_options : Bool) (id : Text) → IsOption has_options id
+    → (arg_by_id (rules needs_file has_options) id ≡ Some (event_read id)) × (arg_by_long (rules needs_file has_options) id ≡ Some (event_read id))
+option_named needs_file has_options id known =
+    subst (λ (b : Bool). (arg_by_id (rules needs_file b) id ≡ Some (event_read id)) × (arg_by_long (rules needs_file b) id ≡ Some (event_read id))) (sym known.0)
     (elim known.1 [
-      | inl is ↦ subst (λ (t : Text). (arg_by_id (rules true) t ≡ Some (event_read t)) × (arg_by_long (rules true) t ≡ Some (event_read t))) (sym is) (refl, refl)
-      | inr is ↦ subst (λ (t : Text). (arg_by_id (rules true) t ≡ Some (event_read t)) × (arg_by_long (rules true) t ≡ Some (event_read t))) (sym is) (refl, refl)
+      | inl is ↦ subst (λ (t : Text). (arg_by_id (rules needs_file true) t ≡ Some (event_read t)) × (arg_by_long (rules needs_file true) t ≡ Some (event_read t))) (sym is) (refl, refl)
+      | inr is ↦ subst (λ (t : Text). (arg_by_id (rules needs_file true) t ≡ Some (event_read t)) × (arg_by_long (rules needs_file true) t ≡ Some (event_read t))) (sym is) (refl, refl)
     ])
 
-no_second : (has_options : Bool) → arg_by_index (rules has_options) 2 ≡ None
-no_second false = refl
-no_second true = refl
+no_second : (needs_file has_options : Bool) → arg_by_index (rules needs_file has_options) 2 ≡ None
+no_second needs_file false = refl
+no_second needs_file true = refl
 
 -- no argument has a default
-pub no_defaults : (has_options : Bool) (rows : List Row) → fold with_default rows (rules has_options) ≡ rows
-no_defaults has_options rows = each has_options (with_default rows file_read) ∙ same (has_row (codes "file") rows) rows
+pub no_defaults : (needs_file has_options : Bool) (rows : List Row) → fold with_default rows (rules needs_file has_options) ≡ rows
+no_defaults needs_file has_options rows = each has_options (with_default rows file_read) ∙ same (has_row (codes "file") rows) rows
   where
     same : (b : Bool) (xs : List Row) → cond b xs xs ≡ xs
     same true xs = refl
@@ -169,97 +170,97 @@ number_fits id rows word n none number =
 
 -- ---- a word that goes to the file
 
-module _ (has_options : Bool) (name : Text) (rows : List Row) (pending : Option (Text × List Text)) (waiting : Waiting) (word : Text) where
+module _ (needs_file has_options : Bool) (name : Text) (rows : List Row) (pending : Option (Text × List Text)) (waiting : Waiting) (word : Text) where
   abbrev h : Held
   h = held rows pending
 
-  pub file_fault : step_fault (leaf has_options name) 1 h value ≡ settle_fault (rules has_options) false h
-  file_fault = ap (λ (several : Bool). cond several [] (settle_fault (rules has_options) false h)) (and_no (is_pending file_read pending))
+  pub file_fault : step_fault (leaf needs_file has_options name) 1 h value ≡ settle_fault (rules needs_file has_options) false h
+  file_fault = ap (λ (several : Bool). cond several [] (settle_fault (rules needs_file has_options) false h)) (and_no (is_pending file_read pending))
 
   abbrev with_file : Bool → Bool → Walk
   with_file several is_trailing = record {
-    held = pushed (codes "file") word (cond several h (settled (rules has_options) h));
+    held = pushed (codes "file") word (cond several h (settled (rules needs_file has_options) h));
     waiting = idle;
     position = 2;
     is_trailing = is_trailing;
     stopped = None;
   }
 
-  pub file_moved : (is_trailing : Bool) → after_step (rules has_options) word (state rows pending waiting 1 is_trailing) h value ≡ state (settled_rows (rules has_options) pending rows) (Some (codes "file", word ∷ [])) idle 2 is_trailing
+  pub file_moved : (is_trailing : Bool) → after_step (rules needs_file has_options) word (state rows pending waiting 1 is_trailing) h value ≡ state (settled_rows (rules needs_file has_options) pending rows) (Some (codes "file", word ∷ [])) idle 2 is_trailing
   file_moved is_trailing = ap₂ with_file (and_no (is_pending file_read pending)) (or_no is_trailing)
 
   -- a second file
-  pub stray : step_fault (leaf has_options name) 2 h value ≡ [] → ⊥
+  pub stray : step_fault (leaf needs_file has_options name) 2 h value ≡ [] → ⊥
   stray e =
       let bad : ◌≡◌ {A = Kinds} (UnknownArgument ∷ []) [] =
-      subst (λ (o : Option Rule). option_map_or (λ (a : Rule). positional_fault (rules has_options) false a h) o (UnknownArgument ∷ []) ≡ []) (no_second has_options) e in
+      subst (λ (o : Option Rule). option_map_or (λ (a : Rule). positional_fault (rules needs_file has_options) false a h) o (UnknownArgument ∷ []) ≡ []) (no_second needs_file has_options) e in
       cc
 
 -- ---- an option and its value
 
-module _ (has_options : Bool) (name id : Text) (known : IsOption has_options id) (rows : List Row) (position : ℕ) where
-  abbrev by_id : arg_by_id (rules has_options) id ≡ Some (event_read id)
-  by_id = (option_named has_options id known).0
+module _ (needs_file has_options : Bool) (name id : Text) (known : IsOption has_options id) (rows : List Row) (position : ℕ) where
+  abbrev by_id : arg_by_id (rules needs_file has_options) id ≡ Some (event_read id)
+  by_id = (option_named needs_file has_options id known).0
 
-  abbrev by_long : arg_by_long (rules has_options) id ≡ Some (event_read id)
-  by_long = (option_named has_options id known).1
+  abbrev by_long : arg_by_long (rules needs_file has_options) id ≡ Some (event_read id)
+  by_long = (option_named needs_file has_options id known).1
 
   module _ (pending : Option (Text × List Text)) (word : Text) (other : bytes_eq word dashes ≡ false) (attached : Option Text) (is : long_of word ≡ Some (id, attached)) where
     abbrev at : Walk
     at = state rows pending idle position false
 
     abbrev fault_at : Option Rule → Kinds
-    fault_at o = or_else (long_fault (rules has_options) false o attached (held rows pending))
-        (step_fault (leaf has_options name) position (after_flag (rules has_options) idle word (long_met (rules has_options) o attached (held rows pending)).0 (long_met (rules has_options) o attached (held rows pending)).1).0 (after_flag (rules has_options) idle word (long_met (rules has_options) o attached (held rows pending)).0 (long_met (rules has_options) o attached (held rows pending)).1).1)
+    fault_at o = or_else (long_fault (rules needs_file has_options) false o attached (held rows pending))
+        (step_fault (leaf needs_file has_options name) position (after_flag (rules needs_file has_options) idle word (long_met (rules needs_file has_options) o attached (held rows pending)).0 (long_met (rules needs_file has_options) o attached (held rows pending)).1).0 (after_flag (rules needs_file has_options) idle word (long_met (rules needs_file has_options) o attached (held rows pending)).0 (long_met (rules needs_file has_options) o attached (held rows pending)).1).1)
 
     abbrev moved_at : Option Rule → Walk
-    moved_at o = after_step (rules has_options) word at (after_flag (rules has_options) idle word (long_met (rules has_options) o attached (held rows pending)).0 (long_met (rules has_options) o attached (held rows pending)).1).0 (after_flag (rules has_options) idle word (long_met (rules has_options) o attached (held rows pending)).0 (long_met (rules has_options) o attached (held rows pending)).1).1
+    moved_at o = after_step (rules needs_file has_options) word at (after_flag (rules needs_file has_options) idle word (long_met (rules needs_file has_options) o attached (held rows pending)).0 (long_met (rules needs_file has_options) o attached (held rows pending)).1).0 (after_flag (rules needs_file has_options) idle word (long_met (rules needs_file has_options) o attached (held rows pending)).0 (long_met (rules needs_file has_options) o attached (held rows pending)).1).1
 
-    option_turn : (turn_fault (leaf has_options name) [] at word ≡ fault_at (Some (event_read id))) × (walked (rules has_options) [] at word ≡ moved_at (Some (event_read id)))
+    option_turn : (turn_fault (leaf needs_file has_options name) [] at word ≡ fault_at (Some (event_read id))) × (walked (rules needs_file has_options) [] at word ≡ moved_at (Some (event_read id)))
     option_turn = (
-      turn_is (leaf has_options name) [] rows pending idle position word refl ∙ ap₂ (fault_by (leaf has_options name) idle position (held rows pending) word) other is ∙ ap fault_at by_long,
-      walked_is (leaf has_options name) [] rows pending idle position word refl
-          ∙ ap₂ (λ (dashed : Bool) (l : Option (Text × Option Text)). after_step (rules has_options) word at (met_by (leaf has_options name) idle position (held rows pending) word dashed l).0 (met_by (leaf has_options name) idle position (held rows pending) word dashed l).1) other is
+      turn_is (leaf needs_file has_options name) [] rows pending idle position word refl ∙ ap₂ (fault_by (leaf needs_file has_options name) idle position (held rows pending) word) other is ∙ ap fault_at by_long,
+      walked_is (leaf needs_file has_options name) [] rows pending idle position word refl
+          ∙ ap₂ (λ (dashed : Bool) (l : Option (Text × Option Text)). after_step (rules needs_file has_options) word at (met_by (leaf needs_file has_options name) idle position (held rows pending) word dashed l).0 (met_by (leaf needs_file has_options name) idle position (held rows pending) word dashed l).1) other is
           ∙ ap moved_at by_long,
     )
 
   -- the option alone
   pub apart_turn : (pending : Option (Text × List Text)) (word : Text) → bytes_eq word dashes ≡ false → long_of word ≡ Some (id, None)
-      → settle_fault (rules has_options) false (held rows pending) ≡ []
-      → (turn_fault (leaf has_options name) [] (state rows pending idle position false) word ≡ [])
-      × (walked (rules has_options) [] (state rows pending idle position false) word ≡ state (settled_rows (rules has_options) pending rows) (Some (id, [])) (option id) position false)
+      → settle_fault (rules needs_file has_options) false (held rows pending) ≡ []
+      → (turn_fault (leaf needs_file has_options name) [] (state rows pending idle position false) word ≡ [])
+      × (walked (rules needs_file has_options) [] (state rows pending idle position false) word ≡ state (settled_rows (rules needs_file has_options) pending rows) (Some (id, [])) (option id) position false)
   apart_turn pending word other is settles =
       let turn = option_turn pending word other None is in
-      (turn.0 ∙ nil_or (settle_fault (rules has_options) false (held rows pending)) [] settles refl, turn.1)
+      (turn.0 ∙ nil_or (settle_fault (rules needs_file has_options) false (held rows pending)) [] settles refl, turn.1)
 
   -- with its value after `=`
   pub joined_turn : (pending : Option (Text × List Text)) (word v : Text) → bytes_eq word dashes ≡ false → long_of word ≡ Some (id, Some v)
-      → settle_fault (rules has_options) false (held rows pending) ≡ [] → use_fault false (event_read id) (v ∷ []) (settled_rows (rules has_options) pending rows) ≡ []
-      → (turn_fault (leaf has_options name) [] (state rows pending idle position false) word ≡ [])
-      × (walked (rules has_options) [] (state rows pending idle position false) word ≡ state (used (event_read id) (v ∷ []) (settled_rows (rules has_options) pending rows)) None idle position false)
+      → settle_fault (rules needs_file has_options) false (held rows pending) ≡ [] → use_fault false (event_read id) (v ∷ []) (settled_rows (rules needs_file has_options) pending rows) ≡ []
+      → (turn_fault (leaf needs_file has_options name) [] (state rows pending idle position false) word ≡ [])
+      × (walked (rules needs_file has_options) [] (state rows pending idle position false) word ≡ state (used (event_read id) (v ∷ []) (settled_rows (rules needs_file has_options) pending rows)) None idle position false)
   joined_turn pending word v other is settles fits =
       let turn = option_turn pending word other (Some v) is in
-      (turn.0 ∙ nil_or _ [] (nil_or (settle_fault (rules has_options) false (held rows pending)) _ settles fits) refl, turn.1)
+      (turn.0 ∙ nil_or _ [] (nil_or (settle_fault (rules needs_file has_options) false (held rows pending)) _ settles fits) refl, turn.1)
 
   -- an option that waits for its value is not settled
-  pub unsettled : settle_fault (rules has_options) false (held rows (Some (id, []))) ≡ [] → ⊥
+  pub unsettled : settle_fault (rules needs_file has_options) false (held rows (Some (id, []))) ≡ [] → ⊥
   unsettled e =
       let bad : ◌≡◌ {A = Kinds} (InvalidValue ∷ []) [] =
       subst (λ (o : Option Rule). option_map_or (λ (a : Rule). use_fault false a [] rows) o [] ≡ []) by_id e in
       cc
 
   module _ (v : Text) where
-    pub value_fault : settle_fault (rules has_options) false (held rows (Some (id, v ∷ []))) ≡ use_fault false (event_read id) (v ∷ []) rows
+    pub value_fault : settle_fault (rules needs_file has_options) false (held rows (Some (id, v ∷ []))) ≡ use_fault false (event_read id) (v ∷ []) rows
     value_fault = ap (λ (o : Option Rule). option_map_or (λ (a : Rule). use_fault false a (v ∷ []) rows) o []) by_id
 
-    pub value_rows : settled_rows (rules has_options) (Some (id, v ∷ [])) rows ≡ used (event_read id) (v ∷ []) rows
+    pub value_rows : settled_rows (rules needs_file has_options) (Some (id, v ∷ [])) rows ≡ used (event_read id) (v ∷ []) rows
     value_rows = ap (λ (o : Option Rule). used_by_id o (v ∷ []) rows) by_id
 
     abbrev waiting_h : Held
     waiting_h = held rows (Some (id, []))
 
-    pub value_moved : after_step (rules has_options) v (state rows (Some (id, [])) (option id) position false) (plain_word (rules has_options) (option id) v waiting_h).0 (plain_word (rules has_options) (option id) v waiting_h).1
+    pub value_moved : after_step (rules needs_file has_options) v (state rows (Some (id, [])) (option id) position false) (plain_word (rules needs_file has_options) (option id) v waiting_h).0 (plain_word (rules needs_file has_options) (option id) v waiting_h).1
         ≡ state rows (Some (id, v ∷ [])) idle position false
     value_moved =
-        ap (λ (o : Option Rule). after_step (rules has_options) v (state rows (Some (id, [])) (option id) position false) (option_word o id v waiting_h).0 (next (option_word o id v waiting_h).1)) by_id
+        ap (λ (o : Option Rule). after_step (rules needs_file has_options) v (state rows (Some (id, [])) (option id) position false) (option_word o id v waiting_h).0 (next (option_word o id v waiting_h).1)) by_id
         ∙ ap (λ (b : Bool). state rows (Some (id, v ∷ [])) (cond (nat_lt (cond b 1 0) 1) (option id) idle) position false) ((bytes_eq-Decides id id).1 refl)

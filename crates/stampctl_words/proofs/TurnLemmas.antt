@@ -17,10 +17,6 @@ or_nil (k ∷ ks) y e = let bad : ◌≡◌ {A = Kinds} (k ∷ ks) [] = e in cc
 pub nil_or : (x y : Kinds) → x ≡ [] → y ≡ [] → or_else x y ≡ []
 nil_or x y a b = rw a b
 
-pub or_else-nil : (x : Kinds) → or_else x [] ≡ x
-or_else-nil [] = refl
-or_else-nil (k ∷ ks) = refl
-
 abbrev pub held : List Row → Option (Text × List Text) → Held
 held rows pending = record { rows = rows; pending = pending; skip = 0 }
 

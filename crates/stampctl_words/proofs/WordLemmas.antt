@@ -1,25 +1,26 @@
 -- What the parser of the command line makes of the words.
-use Rattle.std.proofs.Common.{◌≡◌, ◌∙◌, ◌⊎◌, ◌||◌, Bool, cond, codes, true, false, refl, sym, ap, ap₂, subst, inl, inr, List, [], ◌∷◌, ◌++◌, drop, Option, Some, None, bytes_eq, fold, is_some, option_map, Box, box_value}
-use Rattle.std.proofs.lemmas.Bool.{cases_Bool}
-use Rattle.clap.specs.Kinds.{Kinds, or_else}
+use Rattle.std.proofs.Common.{◌≡◌, ◌∙◌, ◌⊎◌, ◌||◌, Bool, cond, codes, true, false, not, refl, sym, ap, ap₂, subst, inl, inr, List, [], ◌∷◌, ◌++◌, drop, Option, Some, None, bytes_eq, fold, is_some, option_map, Box, box_value}
+use Rattle.std.proofs.lemmas.Bool.{cases_Bool, true≢false}
+use Rattle.clap.specs.Kinds.{Kinds, check_kinds, or_else}
 use Rattle.clap.specs.Faults.{built_fault, check_fault, default_fault, defaults_fault, entered_fault, fault_of, given_default_fault, level_fault, settle_fault, turn_fault, walk_fault}
 use Rattle.clap.specs.Matches.{found_of, has_subcommand, subcommand_name_of}
 use Rattle.clap.specs.Simple.{App, Shape, built, entered, names_of, subcommand_of, subcommand_rows, subcommand_rows_of}
+use Rattle.clap.specs.Takes.{is_given}
 use Rattle.clap.specs.Walk.{Held, Row, Rule, Text, Walk, after_step, finished, has_row, idle, is_empty, nothing_held, rows_after, rows_of, settled, stop_after, subcommand_met, subcommand_or_other, walked, with_default}
-use Rattle.clap.specs.declared.error.kind.ErrorKind.TheVariants.{InvalidSubcommand, UnknownArgument}
+use Rattle.clap.specs.declared.error.kind.ErrorKind.TheVariants.{InvalidSubcommand, MissingRequiredArgument, UnknownArgument}
 use Rattle.clap.specs.declared.parser.matches.ArgMatches.{ArgMatches}
 use Rattle.clap.specs.declared.parser.matches.ArgMatches.TheViews.{out-ArgMatches, out-SubCommand}
 use Rattle.clap.specs.declared.parser.matches.SubCommand.{SubCommand}
 use Rattle.clap.proofs.OnLiterals.{clap_on_literals}
 use Rattle.clap.proofs.WalkLemmas.{walk_stopped}
 use Rattle.stampctl_words.specs.CommandLine.{program}
-use Rattle.stampctl_words.specs.Words.{Adds, Arguments, Call, Draws, IsFile, MayBeFile, Names, NoSubcommand, OnlyDashes, Run, Runs, Traces, no_arguments}
-use Rattle.stampctl_words.proofs.NamedLemmas.{reads}
+use Rattle.stampctl_words.specs.Words.{Adds, Arguments, Call, Draws, Dumps, IsFile, MayBeFile, Names, NoSubcommand, OnlyDashes, Run, Runs, Traces, no_arguments}
+use Rattle.stampctl_words.proofs.NamedLemmas.{end_rows, reads}
 use Rattle.stampctl_words.proofs.RowLemmas.{Holds}
 use Rattle.stampctl_words.proofs.RuleLemmas.{leaf, refuses_long, refuses_short, rules}
 use Rattle.stampctl_words.proofs.SpellingLemmas.{same_in_some, same_word}
 use Rattle.stampctl_words.proofs.TakenLemmas.{takes_all}
-use Rattle.stampctl_words.proofs.TurnLemmas.{Refuses, Seen, SeenDashes, SeenJoined, SeenOption, SeenValue, faults, nil_or, or_else-nil, or_nil, seen, state}
+use Rattle.stampctl_words.proofs.TurnLemmas.{Refuses, Seen, SeenDashes, SeenJoined, SeenOption, SeenValue, faults, nil_or, or_nil, seen, state}
 
 -- ---- nothing is refused after the words of a subcommand
 
@@ -41,24 +42,74 @@ unfolding defaults_fault
 no_default_faults [] none rows = refl
 no_default_faults (a ∷ rest) none rows = nil_or (default_fault rows a) _ (no_default_fault rows a none.0) (no_default_faults rest none.1 (with_default rows a))
 
-no_defaults_fault : (has_options : Bool) (rows : List Row) → defaults_fault rows (rules has_options) ≡ []
-no_defaults_fault false rows = no_default_faults (rules false) (refl, (refl, tt)) rows
-no_defaults_fault true rows = no_default_faults (rules true) (refl, (refl, (refl, (refl, tt)))) rows
+no_defaults_fault : (needs_file has_options : Bool) (rows : List Row) → defaults_fault rows (rules needs_file has_options) ≡ []
+no_defaults_fault needs_file false rows = no_default_faults (rules needs_file false) (refl, (refl, tt)) rows
+no_defaults_fault needs_file true rows = no_default_faults (rules needs_file true) (refl, (refl, (refl, (refl, tt)))) rows
 
-no_check_fault : (has_options : Bool) (name : Text) (rows : List Row) → check_fault (leaf has_options name) rows false ≡ []
-no_check_fault false name rows = refl
-no_check_fault true name rows = refl
+-- what is refused where a file is needed, by whether one was given
+abbrev file_check : Bool → Kinds
+file_check given = check_kinds false false (not given || false)
+
+no_check_fault : (needs_file has_options : Bool) (name : Text) (rows : List Row) → (needs_file ≡ true → is_given (codes "file") rows ≡ true)
+    → check_fault (leaf needs_file has_options name) rows false ≡ []
+no_check_fault false false name rows given = refl
+no_check_fault false true name rows given = refl
+no_check_fault true false name rows given = ap file_check (given refl)
+no_check_fault true true name rows given = ap file_check (given refl)
+
+given_file : (needs_file has_options : Bool) (name : Text) (rows : List Row) → check_fault (leaf needs_file has_options name) rows false ≡ []
+    → needs_file ≡ true → is_given (codes "file") rows ≡ true
+given_file needs_file has_options name rows e needs = go needs_file has_options needs e
+  where
+    only_given : (given : Bool) → file_check given ≡ [] → given ≡ true
+    only_given true none = refl
+    only_given false none = let bad : ◌≡◌ {A = Kinds} (MissingRequiredArgument ∷ []) [] = none in cc
+
+    go : (needs_one has_some : Bool) → needs_one ≡ true → check_fault (leaf needs_one has_some name) rows false ≡ [] → is_given (codes "file") rows ≡ true
+    go false has_some is none = absurd (true≢false (sym is))
+    go true false is none = only_given (is_given (codes "file") rows) none
+    go true true is none = only_given (is_given (codes "file") rows) none
 
 abbrev start : Walk
 start = state [] None idle 1 false
 
-level_is : (has_options : Bool) (name : Text) (words : List Text) → level_fault (leaf has_options name) [] nothing_held words false [] ≡ faults (leaf has_options name) start words
-level_is has_options name words =
-    let end : Held = (fold (walked (rules has_options) []) start words).held in
-    let last : or_else (defaults_fault (settled (rules has_options) end).rows (rules has_options)) (check_fault (leaf has_options name) (finished (rules has_options) end) false) ≡ [] =
-    nil_or _ _ (no_defaults_fault has_options (settled (rules has_options) end).rows) (no_check_fault has_options name (finished (rules has_options) end)) in
-    ap (λ (k : Kinds). or_else (walk_fault (leaf has_options name) [] start words) (or_else (settle_fault (rules has_options) false end) k)) last
-    ∙ ap (or_else (walk_fault (leaf has_options name) [] start words)) (or_else-nil (settle_fault (rules has_options) false end))
+-- one level of a parse: its words, and then what is needed
+module _ (needs_file has_options : Bool) (name : Text) (words : List Text) where
+  abbrev end : Held
+  end = (fold (walked (rules needs_file has_options) []) start words).held
+
+  abbrev walk_kinds : Kinds
+  walk_kinds = walk_fault (leaf needs_file has_options name) [] start words
+
+  abbrev settle_kinds : Kinds
+  settle_kinds = settle_fault (rules needs_file has_options) false end
+
+  abbrev default_kinds : Kinds
+  default_kinds = defaults_fault (settled (rules needs_file has_options) end).rows (rules needs_file has_options)
+
+  abbrev last_kinds : Kinds
+  last_kinds = check_fault (leaf needs_file has_options name) (end_rows needs_file has_options name start words) false
+
+  level_reads : level_fault (leaf needs_file has_options name) [] nothing_held words false [] ≡ []
+      → (faults (leaf needs_file has_options name) start words ≡ []) × (last_kinds ≡ [])
+  level_reads e =
+      let walks = or_nil walk_kinds (or_else settle_kinds (or_else default_kinds last_kinds)) e in
+      let settles = or_nil settle_kinds (or_else default_kinds last_kinds) walks.1 in
+      (nil_or walk_kinds settle_kinds walks.0 settles.0, (or_nil default_kinds last_kinds settles.1).1)
+
+  level_taken : faults (leaf needs_file has_options name) start words ≡ [] → last_kinds ≡ [] → level_fault (leaf needs_file has_options name) [] nothing_held words false [] ≡ []
+  level_taken e last =
+      let walks = or_nil walk_kinds settle_kinds e in
+      nil_or walk_kinds (or_else settle_kinds (or_else default_kinds last_kinds)) walks.0
+      (nil_or settle_kinds (or_else default_kinds last_kinds) walks.1
+      (nil_or default_kinds last_kinds (no_defaults_fault needs_file has_options (settled (rules needs_file has_options) end).rows) last))
+
+  -- words that add arguments, with a file where one is needed
+  adds_taken : (a : Arguments) → Adds IsFile has_options words no_arguments a → (needs_file ≡ true → is_some a.file ≡ true)
+      → level_fault (leaf needs_file has_options name) [] nothing_held words false [] ≡ []
+  adds_taken a adds has =
+      let taken = takes_all needs_file has_options name words a adds in
+      level_taken taken.0 (no_check_fault needs_file has_options name (end_rows needs_file has_options name start words) (λ needs. taken.1.given ∙ has needs))
 
 -- ---- the program's words
 
@@ -68,19 +119,23 @@ made = built program
 abbrev top : Shape
 top = made.top
 
-abbrev pub IsNamed : Bool → Text → Type 0
-IsNamed false name = (name ≡ codes "run") ⊎ (name ≡ codes "trace")
-IsNamed true name = name ≡ codes "draw"
+abbrev pub IsNamed : (needs_file has_options : Bool) → Text → Type 0
+IsNamed false false name = (name ≡ codes "run") ⊎ (name ≡ codes "trace")
+IsNamed false true name = name ≡ codes "draw"
+IsNamed true false name = name ≡ codes "dump"
+IsNamed true true name = ⊥
 
 -- the words name this subcommand, and add what the rows hold
 pub record Called (words : List Text) (name : Text) (rows : List Row) : Type 0 where
+  pub needs_file : Bool
   pub has_options : Bool
-  pub named : IsNamed has_options name
+  pub named : IsNamed needs_file has_options name
   pub rest : List Text
   pub is : words ≡ name ∷ rest
   pub arguments : Arguments
   pub adds : Adds MayBeFile has_options rest no_arguments arguments
   pub holds : Holds rows arguments
+  pub has_file : needs_file ≡ true → is_some arguments.file ≡ true
 
 -- what the words ask for, where the parser enters a subcommand or none
 abbrev Reads : List Text → Option (Text × List Row) → Type 0
@@ -100,11 +155,11 @@ no_top_check true = refl
 no_top_check false = refl
 
 -- a subcommand's name, and the words after it
-module _ (has_options : Bool) (name : Text) (rest : List Text)
+module _ (needs_file has_options : Bool) (name : Text) (rest : List Text)
     (met : subcommand_met (names_of made) idle name ≡ Some name)
     (turn : turn_fault top (names_of made) start name ≡ [])
-    (found : entered made (Some (name, rest)) ≡ Some (name, rows_after (rules has_options) [] rest))
-    (below : entered_fault made (Some (name, rest)) ≡ level_fault (leaf has_options name) [] nothing_held rest false []) where
+    (found : entered made (Some (name, rest)) ≡ Some (name, rows_after (rules needs_file has_options) [] rest))
+    (below : entered_fault made (Some (name, rest)) ≡ level_fault (leaf needs_file has_options name) [] nothing_held rest false []) where
   first_walked : walked top.rules (names_of made) start name ≡ record start { stopped = Some (name, []) }
   unfolding walked
   first_walked =
@@ -118,19 +173,30 @@ module _ (has_options : Bool) (name : Text) (rest : List Text)
   stops : stop_after top.rules (names_of made) (name ∷ rest) ≡ Some (name, rest)
   stops = ap (λ (w : Walk). w.stopped) ends
 
-  name_reads : IsNamed has_options name → built_fault made nothing_held (name ∷ rest) ≡ [] → Reads (name ∷ rest) (read_from (name ∷ rest))
+  name_reads : IsNamed needs_file has_options name → built_fault made nothing_held (name ∷ rest) ≡ [] → Reads (name ∷ rest) (read_from (name ∷ rest))
   name_reads is e =
       let inner = or_nil (entered_fault made (stop_after top.rules (names_of made) (name ∷ rest))) _ (or_nil (walk_fault top (names_of made) start (name ∷ rest)) _ e).1 in
-      let read = reads has_options name rest (sym (level_is has_options name rest) ∙ sym below ∙ ap (entered_fault made) (sym stops) ∙ inner.0) in
+      let level = level_reads needs_file has_options name rest (sym below ∙ ap (entered_fault made) (sym stops) ∙ inner.0) in
+      let read = reads needs_file has_options name rest level.0 in
       subst (Reads (name ∷ rest)) (sym (ap (entered made) stops ∙ found))
-      (record { has_options = has_options; named = is; rest = rest; is = refl; arguments = read.0; adds = read.1; holds = read.2 })
+      (record {
+        needs_file = needs_file;
+        has_options = has_options;
+        named = is;
+        rest = rest;
+        is = refl;
+        arguments = read.0;
+        adds = read.1;
+        holds = read.2;
+        has_file = λ needs. sym read.2.given ∙ given_file needs_file has_options name (end_rows needs_file has_options name start rest) level.1 needs;
+      })
 
-  name_taken : faults (leaf has_options name) start rest ≡ [] → built_fault made nothing_held (name ∷ rest) ≡ []
+  name_taken : level_fault (leaf needs_file has_options name) [] nothing_held rest false [] ≡ [] → built_fault made nothing_held (name ∷ rest) ≡ []
   unfolding walk_fault defaults_fault
   name_taken e =
       let passed : walk_fault top (names_of made) start (name ∷ rest) ≡ [] =
       nil_or _ _ turn (subst (λ (w : Walk). walk_fault top (names_of made) w rest ≡ []) (sym first_walked) (stopped_none start name [] rest)) in
-      let inner : entered_fault made (stop_after top.rules (names_of made) (name ∷ rest)) ≡ [] = ap (entered_fault made) stops ∙ below ∙ level_is has_options name rest ∙ e in
+      let inner : entered_fault made (stop_after top.rules (names_of made) (name ∷ rest)) ≡ [] = ap (entered_fault made) stops ∙ below ∙ e in
       let last = subst (λ (w : Walk). or_else (settle_fault top.rules top.args_override_self w.held) (or_else (defaults_fault (settled top.rules w.held).rows top.rules) (check_fault top (finished top.rules w.held) (is_some (entered made w.stopped)))) ≡ [])
       (sym ends) (no_top_check (is_some (entered made (Some (name, rest))))) in
       nil_or _ _ passed (nil_or _ _ inner last)
@@ -168,26 +234,35 @@ pub takes_named : (words : List Text) → built_fault made nothing_held words �
 takes_named [] e = NoSubcommand
 takes_named (word ∷ rest) e = elim (cases_Bool (bytes_eq (codes "run") word)) [
   | inl same ↦ subst (λ (w : Text). built_fault made nothing_held (w ∷ rest) ≡ [] → Reads (w ∷ rest) (read_from (w ∷ rest))) (same_word (codes "run") word same)
-      (name_reads false (codes "run") rest refl refl refl refl (inl refl)) e
+      (name_reads false false (codes "run") rest refl refl refl refl (inl refl)) e
   | inr no_run ↦ elim (cases_Bool (bytes_eq (codes "trace") word)) [
     | inl same ↦ subst (λ (w : Text). built_fault made nothing_held (w ∷ rest) ≡ [] → Reads (w ∷ rest) (read_from (w ∷ rest))) (same_word (codes "trace") word same)
-        (name_reads false (codes "trace") rest refl refl refl refl (inr refl)) e
+        (name_reads false false (codes "trace") rest refl refl refl refl (inr refl)) e
     | inr no_trace ↦ elim (cases_Bool (bytes_eq (codes "draw") word)) [
       | inl same ↦ subst (λ (w : Text). built_fault made nothing_held (w ∷ rest) ≡ [] → Reads (w ∷ rest) (read_from (w ∷ rest))) (same_word (codes "draw") word same)
-          (name_reads true (codes "draw") rest refl refl refl refl refl) e
-      | inr no_draw ↦ unnamed word rest (rw (no_run, no_trace, no_draw) refl) e
+          (name_reads false true (codes "draw") rest refl refl refl refl refl) e
+      | inr no_draw ↦ elim (cases_Bool (bytes_eq (codes "dump") word)) [
+        | inl same ↦ subst (λ (w : Text). built_fault made nothing_held (w ∷ rest) ≡ [] → Reads (w ∷ rest) (read_from (w ∷ rest))) (same_word (codes "dump") word same)
+            (name_reads true false (codes "dump") rest refl refl refl refl refl) e
+        | inr no_dump ↦ unnamed word rest (rw (no_run, no_trace, no_draw, no_dump) refl) e
+      ]
     ]
   ]
 ]
+
+needs_none : {A : Type 0} → false ≡ true → A
+needs_none is = absurd (true≢false (sym is))
 
 -- and it takes the words that name a call
 pub takes_call : (words : List Text) (call : Call) → Names IsFile words call → built_fault made nothing_held words ≡ []
 unfolding clap_on_literals
 takes_call words call NoSubcommand = refl
 takes_call words call OnlyDashes = refl
-takes_call words call (Runs rest a adds) = name_taken false (codes "run") rest refl refl refl refl (takes_all false (codes "run") rest a adds)
-takes_call words call (Traces rest a adds) = name_taken false (codes "trace") rest refl refl refl refl (takes_all false (codes "trace") rest a adds)
-takes_call words call (Draws rest a adds) = name_taken true (codes "draw") rest refl refl refl refl (takes_all true (codes "draw") rest a adds)
+takes_call words call (Runs rest a adds) = name_taken false false (codes "run") rest refl refl refl refl (adds_taken false false (codes "run") rest a adds needs_none)
+takes_call words call (Traces rest a adds) = name_taken false false (codes "trace") rest refl refl refl refl (adds_taken false false (codes "trace") rest a adds needs_none)
+takes_call words call (Draws rest a adds) = name_taken false true (codes "draw") rest refl refl refl refl (adds_taken false true (codes "draw") rest a adds needs_none)
+takes_call words call (Dumps rest a file adds has) =
+    name_taken true false (codes "dump") rest refl refl refl refl (adds_taken true false (codes "dump") rest a adds (λ needs. ap is_some has))
 
 -- ---- the matches of a parse
 

@@ -7,6 +7,10 @@ use Rattle.clap.specs.declared.builder.value_parser.ValueParser.TheVariants.{Uns
 abbrev pub file_rule : Rule
 file_rule = record (new_rule (codes "file")) { value_names = 1 }
 
+-- a file that may not be left out
+abbrev pub needed_file_rule : Rule
+needed_file_rule = record file_rule { required = true }
+
 -- an option whose value is a number of 64 bits
 abbrev pub event_rule : Text → Rule
 event_rule name = record (new_rule name) {
@@ -23,9 +27,13 @@ drawing_shape = record (new_shape (codes "draw")) {
   rules = file_rule ∷ event_rule (codes "from") ∷ event_rule (codes "to") ∷ [];
 }
 
+abbrev pub dumping_shape : Shape
+dumping_shape = record (new_shape (codes "dump")) { rules = needed_file_rule ∷ [] }
+
 abbrev pub program : App
 program =
     let top = on_top (λ s. record s { disable_help_subcommand = true }) (new_app (codes "stampctl")) in
     let run = with_subcommand top (file_shape (codes "run")) in
     let trace = with_subcommand run (file_shape (codes "trace")) in
-    with_subcommand trace drawing_shape
+    let draw = with_subcommand trace drawing_shape in
+    with_subcommand draw dumping_shape

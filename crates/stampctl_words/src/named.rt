@@ -2,7 +2,7 @@
 ghost use Rattle.std.specs.Prelude.{◌≡◌, IfErr, IfOk, drop, false};
 ghost use Rattle.clap.specs.Words.{app_of, kind_of, rule_of, shape_of};
 ghost use Rattle.clap.specs.declared.builder.command.Command.TheViews.{out-Command};
-ghost use Rattle.stampctl_words.specs.CommandLine.{drawing_shape, event_rule, file_shape, program};
+ghost use Rattle.stampctl_words.specs.CommandLine.{drawing_shape, dumping_shape, event_rule, file_shape, program};
 ghost use Rattle.stampctl_words.specs.Words.{Call, IsFile, MayBeFile, Names, call_of, texts};
 
 use clap::error::ErrorKind;
@@ -10,7 +10,8 @@ use clap::{Arg, value_parser};
 use std::alloc::{AllocError, Global};
 use thiserror::Error as ThisError;
 
-/// What the program is asked to do with a script: that of a file, or without one the script on standard input.
+/// What the program is asked to do: with a script, that of a file or without one the script on standard input, or with a record
+/// file.
 #[derive(Clone, Copy)]
 pub enum Task<'a> {
     /// Runs it and prints what is observed.
@@ -24,13 +25,15 @@ pub enum Task<'a> {
         from: Option<u64>,
         to: Option<u64>,
     },
+    /// Prints the records of the record file with this name.
+    Dump(&'a str),
 }
 
 /// What the help ends with.
 const AFTER_HELP: &str = "\
 Without a command, the script on standard input is run.
-The lines of a script are those of docs/FORMATS.md, and crates/tests_rows/data has some scripts.
-Status 0: the script ran to its end. 1: it was refused, as the last line says. 2: wrong words.";
+The lines of a script and of a dump are those of docs/FORMATS.md, and crates/tests_rows/data has some scripts.
+Status 0: the script ran to its end, or the file was dumped. 1: it was refused, as the last line says. 2: wrong words.";
 
 /// A subcommand with one file, which may be left out.
 fn with_file<'a>(
@@ -80,6 +83,20 @@ fn drawing<'a>(alloc: Global) -> Result<clap::Command<'a>, AllocError>
     .arg(to)
 }
 
+/// The subcommand that dumps a record file.
+fn dumping<'a>(alloc: Global) -> Result<clap::Command<'a>, AllocError>
+    ensures shape { IfOk result (λ c. shape_of c ≡ dumping_shape) }
+    ensures local { IfOk result (λ c. (out-Command c).has_globals ≡ false) }
+{
+    let file = Arg::new(alloc, "file")
+        .value_name("FILE")
+        .required(true)
+        .help("The record file of an actor, which is only read");
+    clap::Command::new(alloc, "dump")
+        .about("Prints the records of a record file, a line for each")
+        .arg(file)
+}
+
 /// The program's command line.
 fn command_line<'a>(alloc: Global) -> Result<clap::Command<'a>, AllocError>
     ensures { IfOk result (λ c. app_of c ≡ program) }
@@ -91,13 +108,15 @@ fn command_line<'a>(alloc: Global) -> Result<clap::Command<'a>, AllocError>
         "Runs a script and prints each event, the packets that it sent and what is observed",
     )?;
     let draw = drawing(alloc)?;
+    let dump = dumping(alloc)?;
     clap::Command::new(alloc, "stampctl")
         .about("Runs a script, by default the one on standard input")
         .after_help(AFTER_HELP)
         .disable_help_subcommand(true)
         .subcommand(run)?
         .subcommand(trace)?
-        .subcommand(draw)
+        .subcommand(draw)?
+        .subcommand(dump)
 }
 
 /// Why the words were not read.
@@ -151,6 +170,10 @@ pub fn command<'a>(alloc: Global, words: &'a [String]) -> Result<Task<'a>, Comma
             from: given.get_one("from"),
             to: given.get_one("to"),
         }),
+        Some(("dump", given)) => match given.get_str("file") {
+            Some(file) => Ok(Task::Dump(file)),
+            None => unreachable!(),
+        },
         Some((_run, given)) => Ok(Task::Run(given.get_str("file"))),
     }
 }

@@ -11,6 +11,8 @@ mod answers;
 #[cfg(test)]
 mod cases;
 #[cfg(test)]
+mod damage;
+#[cfg(test)]
 mod managers;
 #[cfg(test)]
 mod map_splits;
@@ -21,4 +23,8 @@ mod nodes;
 #[cfg(test)]
 mod record_disks;
 #[cfg(test)]
+mod seen_bytes;
+#[cfg(test)]
 mod senders;
+#[cfg(test)]
+mod written_disks;

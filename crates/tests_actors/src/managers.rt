@@ -4,6 +4,7 @@ mod modifying;
 mod ranges;
 mod sealing;
 mod starting;
+mod strangers;
 mod trimming;
 
 use crate::answers::{Answer, comes_to, counts, is_answer};
@@ -20,6 +21,8 @@ use wire::{ActorId, ExtentId, Packet, RangeId, StreamKind, StreamName};
 pub enum Event {
     /// It takes a packet of this sender, and its step comes to this answer.
     Takes(Sender, Ask, Answer),
+    /// Such a packet of any of these senders changes nothing, and nothing is sent or shown.
+    Ignores(&'static [Sender], Ask),
     /// It is to decide a seal of this extent, and does, or does not for this fault.
     Decides(u64, Option<ManagerFault>),
     /// It decides a seal of extent 1, and tells who asked this length.
@@ -181,6 +184,7 @@ fn fits(alloc: Global, manager: &mut Manager<MemDisk>, event: Event) -> bool {
             packet_of(alloc, from, ask),
             answer,
         ),
+        Event::Ignores(senders, ask) => strangers::ignores(alloc, manager, senders, ask),
         Event::Decides(extent, wanted) => undecided(alloc, manager, extent) == wanted,
         Event::DecidesAt(length) => decides_at(alloc, manager, length),
         Event::HasExtent(extent, wanted) => sealed_at(manager, extent) == wanted,

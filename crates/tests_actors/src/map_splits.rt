@@ -2,7 +2,7 @@
 use crate::cases::{Actor, holds};
 use crate::record_disks::disk_of;
 use bytes::Bytes;
-use disk::{FileFault, MemDisk};
+use disk::MemDisk;
 use model_partition::RangeEntry;
 use pmap::{Caller, KnownRange, MapFault, PartitionMap};
 use std::alloc::Global;
@@ -507,39 +507,4 @@ fn reads_records(rt: HostRuntime) {
     let texts: &[&[u8]] = &[BEGIN_SPLIT, COMPLETE_SPLIT, BEGIN_MERGE, COMPLETE_MERGE];
     let whole = split_map_of(rt.alloc(), texts);
     assert!(rt; holds(rt.alloc(), whole, HAS_ONE));
-}
-
-/// Whether a start is refused as damaged from the disk of a file with records of these bytes.
-fn refuses(alloc: Global, texts: &[&[u8]]) -> bool {
-    let Some(disk) = disk_of(alloc, texts) else {
-        return false;
-    };
-    match PartitionMap::restart(alloc, disk) {
-        Ok(_map) => false,
-        Err((fault, _disk)) => fault == FileFault::Damaged,
-    }
-}
-
-/// Records that are none of a map, or that do not fit what those before them make: a key of no byte, bytes left over, a length
-/// that is too great, an unknown kind, a split or a merge that was not begun, one that is begun twice, and a key that splits nothing.
-const UNFIT: &[&[&[u8]]] = &[
-    &[&[18, 0, 0, 0, 0, 0, 0, 0, 1, 0, 0]],
-    &[&[18, 0, 0, 0, 0, 0, 0, 0, 1, 0, 1, 109, 0]],
-    &[&[18, 0, 0, 0, 0, 0, 0, 0, 1, 0, 2, 109]],
-    &[&[19, 0, 0, 0, 0, 0, 0, 0, 1, 0]],
-    &[&[22, 0, 0, 0, 0, 0, 0, 0, 1]],
-    &[COMPLETE_SPLIT],
-    &[BEGIN_SPLIT, BEGIN_SPLIT],
-    &[BEGIN_SPLIT, ASSIGN, COMPLETE_SPLIT],
-    &[BEGIN_SPLIT, COMPLETE_SPLIT, COMPLETE_MERGE],
-    &[BEGIN_SPLIT, COMPLETE_SPLIT, BEGIN_MERGE, BEGIN_MERGE],
-    &[BEGIN_SPLIT, COMPLETE_SPLIT, BEGIN_SPLIT],
-    &[BEGIN_MERGE],
-];
-
-#[test]
-fn damaged(rt: HostRuntime) {
-    for texts in UNFIT {
-        assert!(rt; refuses(rt.alloc(), texts), "from {texts:?}");
-    }
 }

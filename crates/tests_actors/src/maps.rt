@@ -2,7 +2,7 @@
 use crate::cases::{Actor, holds};
 use crate::record_disks::disk_of;
 use bytes::Bytes;
-use disk::{Disk, DiskFault, FileFault, MemDisk};
+use disk::{DiskFault, MemDisk};
 use pmap::{MapFault, PartitionMap};
 use std::alloc::Global;
 use wire::{ActorId, Body, MapBody, Packet, RangeId, ReqNo, ServerNo, Step};
@@ -362,39 +362,4 @@ const RENEW: &[u8] = &[17, 0, 0, 0, 0, 0, 0, 0, 1, 0, 0, 0, 0, 0, 0, 0, 70];
 fn reads_records(rt: HostRuntime) {
     let read = map_of(rt.alloc(), &[ASSIGN, RENEW, ASSIGN]);
     assert!(rt; holds(rt.alloc(), read, &[&[Event::Has(2, Some(2), 70)]]));
-}
-
-fn refused_start(alloc: Global, disk: MemDisk) -> Option<(FileFault, usize)> {
-    match PartitionMap::restart(alloc, disk) {
-        Ok(_map) => None,
-        Err((fault, disk)) => Some((fault, disk.len())),
-    }
-}
-
-/// Whether a start is refused as damaged from the disk of a file with one record of these bytes, and leaves the disk its length.
-fn refuses_record(alloc: Global, text: &[u8]) -> bool {
-    let Some(disk) = disk_of(alloc, &[text]) else {
-        return false;
-    };
-    let length = disk.len();
-    refused_start(alloc, disk) == Some((FileFault::Damaged, length))
-}
-
-/// The bytes of a record that is none of a map, or that does not fit: of no kind, too short, too long, and of a range that is
-/// not there or that nobody holds.
-const UNFIT: &[&[u8]] = &[
-    &[99, 0, 0, 0, 0, 0, 0, 0, 1],
-    &[16, 0, 0, 0, 0, 0, 0, 0, 1, 2, 0, 0, 0, 0, 0, 0, 0],
-    &[17, 0, 0, 0, 0, 0, 0, 0, 1, 0, 0, 0, 0, 0, 0, 0, 70, 0],
-    &[16, 0, 0, 0, 0, 0, 0, 0, 2, 2, 0, 0, 0, 0, 0, 0, 0, 50],
-    RENEW,
-];
-
-#[test]
-fn damaged(rt: HostRuntime) {
-    let empty = refused_start(rt.alloc(), MemDisk::new(rt.alloc()));
-    assert!(rt; empty == Some((FileFault::Damaged, 0)));
-    for text in UNFIT {
-        assert!(rt; refuses_record(rt.alloc(), text), "from {text:?}");
-    }
 }

@@ -3,6 +3,7 @@ mod appending;
 mod asking;
 mod checking;
 mod sealing;
+mod strangers;
 
 use crate::answers::{Answer, comes_to};
 use crate::cases::{Actor, holds};
@@ -20,6 +21,8 @@ pub enum Event {
     Takes(Sender, Ask, Answer),
     /// It takes so many such packets, one after the other.
     TakesMany(u32, Sender, Ask, Answer),
+    /// Such a packet of any of these senders changes nothing, and nothing is sent or shown.
+    Ignores(&'static [Sender], Ask),
     /// The length of its replica of extent 1, if it has one.
     HasLength(Option<u32>),
     /// The fence of its replica of extent 1, if it has one.
@@ -109,6 +112,7 @@ fn fits(alloc: Global, node: &mut Node<MemDisk>, event: Event) -> bool {
     match event {
         Event::Takes(from, ask, answer) => takes(alloc, node, 1, from, ask, answer),
         Event::TakesMany(times, from, ask, answer) => takes(alloc, node, times, from, ask, answer),
+        Event::Ignores(senders, ask) => strangers::ignores(alloc, node, senders, ask),
         Event::HasLength(wanted) => length(node) == wanted,
         Event::HasFence(wanted) => fence(node) == wanted,
         Event::Runs(number) => node.number() == number && !node.is_stopped(),

@@ -5,6 +5,7 @@ use wire::{ActorId, ServerNo};
 #[derive(Clone, Copy)]
 pub enum Sender {
     Manager,
+    Map,
     User,
     Server,
     Node(u8),
@@ -13,6 +14,7 @@ pub enum Sender {
 pub fn actor_of(sender: Sender) -> ActorId {
     match sender {
         Sender::Manager => ActorId::Manager,
+        Sender::Map => ActorId::Map,
         Sender::User => ActorId::User(7),
         Sender::Server => ActorId::Server(ServerNo(2)),
         Sender::Node(number) => ActorId::Node(number),

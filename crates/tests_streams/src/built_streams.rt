@@ -219,7 +219,7 @@ fn sources_of(alloc: Global, sources: &[(u64, u64)]) -> Option<Sources> {
     Some(Sources { items })
 }
 
-fn list_of(alloc: Global, entries: &[Entry]) -> Option<Vec<Modify>> {
+pub(crate) fn list_of(alloc: Global, entries: &[Entry]) -> Option<Vec<Modify>> {
     let mut list = Vec::new(alloc);
     for (range, sources) in entries {
         let Some(sources) = sources_of(alloc, sources) else {

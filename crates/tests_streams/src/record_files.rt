@@ -123,18 +123,18 @@ fn a_file_of_two_records(rt: HostRuntime) -> Result<(), Fail> {
     Ok(())
 }
 
-/// A byte that is changed, how many bytes are kept, and how many records are found: none where the file is damaged.
-const CUT_FILES: &[(usize, u8, usize, Option<usize>)] = &[
-    (0, b'X', 66, Some(2)),
-    (33, 0, 50, Some(1)),
-    (33, 7, 66, Some(1)),
-    (37, 0xff, 66, None),
-    (65, 1, 66, None),
-    (0, b'X', 33, None),
-    (0, b'X', 4, None),
-    (0, b'X', 0, None),
-    (0, b'Y', 66, None),
-    (3, b'3', 66, None),
+/// Where the second gate is.
+const SECOND_GATE: usize = 33;
+
+/// A byte that is changed, and how many records are found then: none where the file is damaged.
+const CHANGED_FILES: &[(usize, u8, Option<usize>)] = &[
+    (0, b'X', Some(2)),
+    (SECOND_GATE, 0, Some(1)),
+    (SECOND_GATE, 7, Some(1)),
+    (37, 0xff, None),
+    (65, 1, None),
+    (0, b'Y', None),
+    (3, b'3', None),
 ];
 
 fn disk_of(alloc: Global, bytes: &[u8]) -> Result<MemDisk, DiskFault> {
@@ -163,6 +163,7 @@ fn found_in(
     }
 }
 
+/// How many records are found in the first bytes of the file, of which one is changed.
 fn found(alloc: Global, at: usize, byte: u8, len: usize) -> Result<Option<usize>, FileFault> {
     let mut bytes = TWO_RECORDS;
     if let Some(changed) = bytes.get_mut(at) {
@@ -177,11 +178,29 @@ fn found(alloc: Global, at: usize, byte: u8, len: usize) -> Result<Option<usize>
 }
 
 #[test]
-fn what_is_found_in_other_files(rt: HostRuntime) {
-    for (at, byte, len, wanted) in CUT_FILES {
+fn what_is_found_in_changed_files(rt: HostRuntime) {
+    for (at, byte, wanted) in CHANGED_FILES {
         assert!(rt;
-            found(rt.alloc(), *at, *byte, *len) == Ok(*wanted),
-            "{at} {byte} {len}"
+            found(rt.alloc(), *at, *byte, 66) == Ok(*wanted),
+            "{at} {byte}"
+        );
+    }
+}
+
+/// A file that ends before its last gate, while the gates before it are open, is damaged. Behind a closed one nothing is read.
+#[test]
+fn what_is_found_in_files_cut_short(rt: HostRuntime) {
+    for len in 0..66 {
+        assert!(rt;
+            found(rt.alloc(), SECOND_GATE, 1, len) == Ok(None),
+            "{len} bytes"
+        );
+    }
+    for len in 0..67 {
+        let wanted = if len <= SECOND_GATE { None } else { Some(1) };
+        assert!(rt;
+            found(rt.alloc(), SECOND_GATE, 0, len) == Ok(wanted),
+            "{len} bytes, the second gate closed"
         );
     }
 }

@@ -1,4 +1,4 @@
-//! What no clause of the crates of one range and of its load says: that their calls succeed where there is memory, and their
+//! What no clause of the crates of one range, of its load and of a server says: that their calls succeed where there is memory, and their
 //! refusals followed by hand. They stand here, so that no crate is proved a second time for its tests.
 //!
 //! A test goes through cases, each a list of steps in their order. A step is a call with what is wanted of it, or what is known
@@ -29,3 +29,5 @@ mod records;
 mod replays;
 #[cfg(test)]
 mod splits;
+#[cfg(test)]
+mod strangers;

@@ -1,5 +1,5 @@
 //! What no clause says: that calls succeed where there is memory, and loads followed by hand.
-mod answers;
+pub(crate) mod answers;
 
 use crate::asking::{answer_of, context, number};
 use crate::cases::{Case, Tested, holds};

@@ -8,7 +8,7 @@ use Answer::{Fails, Modifies, Refuses, Taken};
 use Ask::{LengthenLog, Modify, Open};
 use Event::{Decides, HasLog, HasNoLog, HasStopped, IsToldToStop, Restarts, Takes};
 use Sender::{Server, User};
-use disk::{FileFault, MemDisk};
+use disk::MemDisk;
 use manager::Manager;
 use std::alloc::Global;
 use wire::{Refusal, StreamKind};
@@ -143,38 +143,10 @@ const ONE_LOG: &[u8] = &[
     7, 1, 0, 0, 0, 0, 0, 0, 0, 2, 1, 1, 0, 0, 0, 0, 0, 0, 0, 1, 1, 0, 0, 0, 0, 0, 0, 0, 0,
 ];
 
-/// Another log for the name, another generation, no source, two streams of which one is there, a kind that there is not, and a
-/// byte too many.
-const DAMAGED: &[&[u8]] = &[
-    &[
-        7, 1, 0, 0, 0, 0, 0, 0, 0, 1, 1, 1, 0, 0, 0, 0, 0, 0, 0, 1, 1, 0, 0, 0, 0, 0, 0, 0, 0,
-    ],
-    &[
-        7, 1, 0, 0, 0, 0, 0, 0, 0, 2, 1, 1, 0, 0, 0, 0, 0, 0, 0, 1, 1, 0, 0, 0, 0, 0, 0, 0, 5,
-    ],
-    &[7, 1, 0, 0, 0, 0, 0, 0, 0, 2, 1, 0],
-    &[
-        7, 2, 0, 0, 0, 0, 0, 0, 0, 2, 1, 1, 0, 0, 0, 0, 0, 0, 0, 1, 1, 0, 0, 0, 0, 0, 0, 0, 0,
-    ],
-    &[
-        7, 1, 0, 0, 0, 0, 0, 0, 0, 2, 4, 1, 0, 0, 0, 0, 0, 0, 0, 1, 1, 0, 0, 0, 0, 0, 0, 0, 0,
-    ],
-    &[
-        7, 1, 0, 0, 0, 0, 0, 0, 0, 2, 1, 1, 0, 0, 0, 0, 0, 0, 0, 1, 1, 0, 0, 0, 0, 0, 0, 0, 0, 0,
-    ],
-];
-
 fn has_built(alloc: Global, disk: MemDisk) -> bool {
     match Manager::restart(alloc, disk) {
         Ok(manager) => lists(&manager, 2, StreamKind::Log, 0, &[]),
         Err((_fault, _disk)) => false,
-    }
-}
-
-fn is_damaged(alloc: Global, disk: MemDisk) -> bool {
-    match Manager::restart(alloc, disk) {
-        Ok(_manager) => false,
-        Err((fault, _disk)) => fault == FileFault::Damaged,
     }
 }
 
@@ -186,17 +158,7 @@ fn has_log_of(alloc: Global, text: &[u8]) -> bool {
     }
 }
 
-fn is_damaged_by(alloc: Global, text: &[u8]) -> bool {
-    match disk_of(alloc, &[FIRST, text]) {
-        Some(disk) => is_damaged(alloc, disk),
-        None => false,
-    }
-}
-
 #[test]
 fn reads_lists(rt: HostRuntime) {
     assert!(rt; has_log_of(rt.alloc(), ONE_LOG));
-    for text in DAMAGED {
-        assert!(rt; is_damaged_by(rt.alloc(), text), "from {text:?}");
-    }
 }

@@ -1,6 +1,7 @@
 use Rattle.script_run.proofs.Drafts.{no_script}
 use Rattle.script_run.proofs.Refusing.{told_on}
 use Rattle.script_run.specs.Script.{size_of}
+use Rattle.script_steps.proofs.Adding.{all_within}
 use Rattle.script_steps.proofs.Printing.{all_sent, all_written, shows}
 use Rattle.script_steps.proofs.recording.steps_of.Goals as goal
 
@@ -17,3 +18,6 @@ pub returns-clause-sent : goal.returns-clause-sent
 returns-clause-sent c =
     all_sent c.args.text.now c.play_all.new.steps
     (shows c.args.text.now c.in_ok-steps.steps c.play_all.new.steps (size_of c.in_ok-plan.plan.setup) c.in_ok-plan.plan.lines.items c.in_ok-plan.ensures.found c.in_ok-steps.ensures.fresh c.in_ok-steps.ensures.mirrors c.in_ok-steps.ensures.none c.in_ok-play_all.ensures.added)
+
+pub returns-clause-within : goal.returns-clause-within
+returns-clause-within c = all_within c.in_ok-steps.steps c.play_all.new.steps _ c.in_ok-steps.ensures.none c.in_ok-play_all.ensures.added

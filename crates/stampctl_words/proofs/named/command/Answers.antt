@@ -8,7 +8,7 @@ use Rattle.clap.specs.declared.error.kind.ErrorKind.TheVariants.{OutOfMemory}
 use Rattle.clap.specs.declared.parser.matches.ArgMatches.{ArgMatches}
 use Rattle.clap.proofs.WalkLemmas.{first_value-rows, one_text-rows}
 use Rattle.stampctl_words.specs.Words.{texts}
-use Rattle.stampctl_words.proofs.CallLemmas.{called_draw, called_run, called_trace, number_is}
+use Rattle.stampctl_words.proofs.CallLemmas.{called_draw, called_dump, called_run, called_trace, dump_has_file, number_is}
 use Rattle.stampctl_words.proofs.WordLemmas.{Called, no_task, one_task, takes_call}
 use Rattle.stampctl_words.proofs.named.command.Goals as goal
 
@@ -75,8 +75,35 @@ returns-clause-named c =
     let given : ArgMatches = c.in-Some.given.now in
     let no_trace : c.in-Some._run.now ≡ codes "trace" → ⊥ = search in
     let no_draw : c.in-Some._run.now ≡ codes "draw" → ⊥ = search in
+    let no_dump : c.in-Some._run.now ≡ codes "dump" → ⊥ = search in
     let called = one_task words c.in_ok-matches.matches given c.in-Some._run.now
     (sym (ap (λ (a : App). fault_of a words) app) ∙ c.in_ok-matches.ensures.kinds (ap is_simple_and_free app))
     ((c.in_ok-matches.ensures.matches (ap is_simple app)).1 ∙ ap (λ (a : App). subcommand_of a words) app)
     c.in-Some.ensures.name c.in-Some.ensures.rows in
-    called_run (drop 1 words) (rows_of (found_of given)) _ (c.get_str-in-Some.ensures ∙ first_value-rows (found_of given) (codes "file")) c.in-Some._run.now no_trace no_draw called
+    called_run (drop 1 words) (rows_of (found_of given)) _ (c.get_str-in-Some.ensures ∙ first_value-rows (found_of given) (codes "file")) c.in-Some._run.now no_trace no_draw no_dump called
+
+pub returns-in-Some-get_str-clause-named : goal.returns-in-Some-get_str-clause-named
+returns-in-Some-get_str-clause-named c =
+    let words : List Text = texts c.args.words.now in
+    let app = c.in_ok-command_line.ensures in
+    let given : ArgMatches = c.in-Some-dump-default.given.now in
+    let rows : List Row = rows_of (found_of given) in
+    let called = one_task words c.in_ok-matches.matches given c.in-Some-dump-default.field-0-0.now
+    (sym (ap (λ (a : App). fault_of a words) app) ∙ c.in_ok-matches.ensures.kinds (ap is_simple_and_free app))
+    ((c.in_ok-matches.ensures.matches (ap is_simple app)).1 ∙ ap (λ (a : App). subcommand_of a words) app)
+    c.in-Some-dump-default.ensures.name c.in-Some-dump-default.ensures.rows in
+    called_dump (drop 1 words) rows (subst (λ (t : Text). Called (drop 1 words) t rows) c.in-Some-dump-default.is-dump called)
+    c.in-Some-get_str.file.now (c.in-Some-get_str.ensures ∙ first_value-rows (found_of given) (codes "file"))
+
+pub unreachable-requires : goal.unreachable-requires
+unreachable-requires c =
+    let words : List Text = texts c.args.words.now in
+    let app = c.in_ok-command_line.ensures in
+    let given : ArgMatches = c.in-Some-dump-default.given.now in
+    let rows : List Row = rows_of (found_of given) in
+    let called = one_task words c.in_ok-matches.matches given c.in-Some-dump-default.field-0-0.now
+    (sym (ap (λ (a : App). fault_of a words) app) ∙ c.in_ok-matches.ensures.kinds (ap is_simple_and_free app))
+    ((c.in_ok-matches.ensures.matches (ap is_simple app)).1 ∙ ap (λ (a : App). subcommand_of a words) app)
+    c.in-Some-dump-default.ensures.name c.in-Some-dump-default.ensures.rows in
+    dump_has_file (drop 1 words) rows (subst (λ (t : Text). Called (drop 1 words) t rows) c.in-Some-dump-default.is-dump called)
+    (c.in-None-get_str.ensures ∙ first_value-rows (found_of given) (codes "file"))

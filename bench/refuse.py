@@ -1,0 +1,165 @@
+#!/usr/bin/env python3
+"""Runs stampctl on each row again and again, each time with other requests for memory refused, and judges each run.
+
+usage: bench/refuse.py [ROW..]
+
+A row is a script of crates/tests_rows/data: NAME beside NAME.stdout, which it prints, and NAME.status, with which it ends if not with 0.
+It is run twice for each request that it makes: with that one refused, and with that one and all after it. Such a run may end
+as the row does, or with status 1, and has then printed a beginning of the row's lines and `refused 22 Memory`. Writes and syncs of real
+files, where a program makes any, are failed in the same two ways, and `refused 20 DiskFailed` is then the last line.
+
+Each run that ends otherwise is a line on standard output, and each row has one that counts its runs; the last line counts all. The
+status is 1 where a run ended otherwise, and 2 where none was made. The program is crates/stampctl/out/stampctl, which the gate proves and
+builds, or the one that STAMPCTL names. The library of bench/refuse.c, which gcc builds, is preloaded to it."""
+import itertools
+import os
+import pathlib
+import re
+import resource
+import shutil
+import subprocess
+import sys
+import tempfile
+import time
+from typing import NamedTuple
+
+ROOT = pathlib.Path(__file__).resolve().parent.parent
+ROWS = ROOT / "crates" / "tests_rows" / "data"
+PROGRAM = pathlib.Path(os.environ.get("STAMPCTL", ROOT / "crates" / "stampctl" / "out" / "stampctl")).absolute()
+SECONDS = 60  # so long may a run take
+SHOWN = 100  # so much of a line is shown
+TOLD = re.compile(rb"requests (\d+) refused (\d+) calls (\d+) failed (\d+)\n\Z")
+# What can be refused, in the order in which the library tells it: how its words begin, and the line with which a program then ends.
+KINDS = (("REFUSE", b"refused 22 Memory\n"), ("FAIL", b"refused 20 DiskFailed\n"))
+
+
+class Row(NamedTuple):
+    name: str
+    script: pathlib.Path
+    out: bytes
+    status: int
+
+
+class Ran(NamedTuple):
+    """A status and what was printed, and of each kind how many there were and how many got nothing. A run that was cut short has told
+    no counts, and one that did not end has no status."""
+    status: int | None
+    out: bytes
+    counts: list
+
+
+def row_of(script):
+    status = script.with_name(f"{script.name}.status")
+    out = script.with_name(f"{script.name}.stdout").read_bytes()
+    return Row(script.name, script, out, int(status.read_text()) if status.exists() else 0)
+
+
+def run(library, row, more):
+    """Runs the row with words for the library, and nothing else in its environment."""
+    with open(row.script, "rb") as script:
+        words = {"stdin": script, "env": {"LD_PRELOAD": library, **more}, "timeout": SECONDS, "check": False}
+        try:
+            ran = subprocess.run([PROGRAM], capture_output=True, **words)
+        except subprocess.TimeoutExpired as late:
+            return Ran(None, late.stdout or b"", [])
+    told = TOLD.search(ran.stderr)
+    numbers = [int(number) for number in told.groups()] if told else []
+    return Ran(ran.returncode, ran.stdout, list(zip(numbers[::2], numbers[1::2])))
+
+
+def ends_as(ran, row):
+    return bool(ran.counts) and (ran.status, ran.out) == (row.status, row.out)
+
+
+def ends_refused(ran, row, line):
+    """Whether it printed a beginning of the row's lines and then this one, with status 1."""
+    front = ran.out.removesuffix(line)
+    is_front = row.out.startswith(front) and front[-1:] in (b"", b"\n")
+    return bool(ran.counts) and ran.status == 1 and ran.out.endswith(line) and is_front
+
+
+def told_of(ran, row):
+    """How a run ended, and the first line in which it differs from the row."""
+    if ran.status is None:
+        end = f"not ended after {SECONDS} s"
+    else:
+        end = f"status {ran.status}" if ran.counts else f"cut short with status {ran.status}"
+    lines = itertools.zip_longest(ran.out.splitlines(), row.out.splitlines(), fillvalue=b"nothing")
+    for number, (one, other) in enumerate(lines, 1):
+        if one != other:
+            start = max(len(os.path.commonprefix([one, other])) - SHOWN // 2, 0)
+            shown, wanted = (it[start : start + SHOWN] for it in (one, other))
+            return f"{end}, line {number} from byte {start} is {shown!r}, and not {wanted!r}"
+    return f"{end}, and counts of {ran.counts}"
+
+
+def runs_of(row, counts):
+    """The words of all runs of a row, with the kind of what each refuses."""
+    for kind, (word, _line) in enumerate(KINDS):
+        for number in range(1, counts[kind][0] + 1):
+            yield kind, {f"{word}_ONE": str(number)}
+            yield kind, {f"{word}_FROM": str(number)}
+
+
+def seconds():
+    """What all runs so far took of the processor."""
+    used = resource.getrusage(resource.RUSAGE_CHILDREN)
+    return used.ru_utime + used.ru_stime
+
+
+def sweep(library, row):
+    """Runs a row in each way, and tells what ended otherwise and how many runs there were. Answers how many requests and calls it
+    makes, how many runs were made, how many of them ended as the row, and how many otherwise."""
+    start = seconds()
+    plain = run(library, row, {})
+    if not ends_as(plain, row):
+        print(f"{row.name} with nothing refused: {told_of(plain, row)}")
+        return 0, 1, 0, 1
+    runs = whole = otherwise = 0
+    for kind, more in runs_of(row, plain.counts):
+        ran = run(library, row, more)
+        got_nothing = bool(ran.counts) and ran.counts[kind][1] > 0
+        runs += 1
+        if got_nothing and ends_as(ran, row):
+            whole += 1
+        elif not got_nothing or not ends_refused(ran, row, KINDS[kind][1]):
+            otherwise += 1
+            words = " ".join(f"{name}={value}" for name, value in more.items())
+            print(f"{row.name} with {words}: {told_of(ran, row)}", flush=True)
+    made = sum(seen for seen, _refused in plain.counts)
+    print(f"{row.name}: {told_counts(made, runs, whole, otherwise)}, {seconds() - start:.1f} s of the processor", flush=True)
+    return made, runs, whole, otherwise
+
+
+def told_counts(made, runs, whole, otherwise):
+    return f"{made} requests, {runs} runs, {whole} of them to the end, {otherwise} otherwise"
+
+
+def missing(names, scripts):
+    """What is not there without which no run is made, or nothing."""
+    if len(scripts) < len(names):
+        return f"not all of these are rows: {' '.join(names)}"
+    if not os.access(PROGRAM, os.X_OK):
+        return f"{PROGRAM} is no program; ./run.sh --proved builds it, or STAMPCTL names another"
+    return None if shutil.which("gcc") else "there is no gcc"
+
+
+def main(names):
+    scripts = sorted(path for path in ROWS.iterdir() if not path.suffix and (not names or path.name in names))
+    why = missing(names, scripts)
+    if why:
+        print(f"bench/refuse.py: {why}", file=sys.stderr)
+        return 2
+    start = time.monotonic()
+    with tempfile.TemporaryDirectory() as folder:
+        library = f"{folder}/refuse.so"
+        subprocess.run(["gcc", "-O2", "-shared", "-fPIC", "-o", library, ROOT / "bench" / "refuse.c"], check=True)
+        counts = [sweep(library, row_of(script)) for script in scripts]
+    made, runs, whole, otherwise = map(sum, zip(*counts))
+    told = told_counts(made, runs, whole, otherwise)
+    print(f"{len(scripts)} rows, {told}, {seconds():.0f} s of the processor, {time.monotonic() - start:.0f} s")
+    return 1 if otherwise else 0
+
+
+if __name__ == "__main__":
+    sys.exit(main(sys.argv[1:]))

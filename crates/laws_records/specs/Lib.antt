@@ -1,0 +1,4 @@
+pub mod Texts
+pub mod NodeRecords
+pub mod ManagerRecords
+pub mod MapRecords
