@@ -3,7 +3,7 @@
 //!
 //! The gate runs this program, and what it prints must be the file `stdout`: the number of all files that were compared, and none
 //! that differs. `./run.sh --rows` runs the same scripts by `stampctl`, unproved, and looks at the status too. What the rows print was
-//! worked out by hand from the rules; traces and drawings were read, and looked at in a browser, before they were stored.
+//! worked out by hand from the rules; traces and drawings are what was printed once, and docs/CLAIMS.md says which were looked at.
 //!
 //! The program reads the files of the folder that it is run in, writes lines to the standard output, and touches nothing else.
 #![tactic(auto)]
