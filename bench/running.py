@@ -1,4 +1,5 @@
-"""How a program is run and measured: by time, by its peak of memory, by instructions and by allocations."""
+"""How a program is run and measured: by time, by its peak of memory, by the pages that it touches first, by instructions and by
+allocations."""
 import os
 import re
 import subprocess
@@ -10,11 +11,16 @@ ROUNDS = 5
 LIBRARY = os.environ.get("ALLOCATIONS")
 
 
+class Failed(Exception):
+    """A command did not do what it was asked to do: what is told of it."""
+
+
 @dataclass
 class Ran:
-    """Seconds of the processor, the peak of resident bytes, and what was printed."""
+    """Seconds of the processor, the peak of resident bytes, the pages of memory that were touched first, and what was printed."""
     seconds: float
     peak: int
+    pages: int
     out: bytes
     told: bytes
 
@@ -26,13 +32,17 @@ def run(words, lines=(), more=None):
             script.write(line.encode() + b"\n")
         script.seek(0)
         environment = {**os.environ, **(more or {})}
-        child = subprocess.Popen(words, stdin=script, stdout=subprocess.PIPE, stderr=told, env=environment)
+        try:
+            child = subprocess.Popen(words, stdin=script, stdout=subprocess.PIPE, stderr=told, env=environment)
+        except OSError as reason:
+            raise SystemExit(f"measure: {words[0]} cannot be run: {reason.strerror}") from None
         out = child.stdout.read()
         _, status, usage = os.wait4(child.pid, 0)
         told.seek(0)
         said = told.read()
-        assert status == 0, (words, status, said[-400:])
-        return Ran(usage.ru_utime + usage.ru_stime, usage.ru_maxrss * 1024, out, said)
+        if status != 0:
+            raise Failed(f"{' '.join(words)} ended with status {os.waitstatus_to_exitcode(status)}: {said[-400:].decode(errors='replace')}")
+        return Ran(usage.ru_utime + usage.ru_stime, usage.ru_maxrss * 1024, usage.ru_minflt, out, said)
 
 
 def counted(words, lines):

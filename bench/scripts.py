@@ -14,8 +14,12 @@ REQUESTS_PER_SETTLE = 64
 # So many transactions may wait in one settle, and so often is an actor brought back.
 TRANSACTIONS_PER_SETTLE = 256
 RESTARTS = 10
+# A page has a few more keys with values of 100 bytes.
+KEYS_PER_PAGE = 500
 # The request, two Puts, two Haves and the answer.
 DELIVERIES_PER_APPEND = 6
+# Ranges that splits make of one have so many keys together, on three pages.
+KEYS_OF_RANGES = 1_600
 # A value of more than 4,096 bytes is kept by its place.
 LARGE_VALUE = 5_000
 
@@ -118,15 +122,24 @@ def puts(count, of, of_range=1, first=0):
     return settled(lambda number: [f"user 1 tx 1 {of_range} +k{first + number % of:06}=100*x"], count, TRANSACTIONS_PER_SETTLE)
 
 
-def checkpoints(keys, parts, loads=0):
+def checkpoints(keys, parts, loads=0, second="plain"):
     """One range with so many keys, in parts, of which the first so many are made: each key is put; a checkpoint; each key is
-    put again; a second checkpoint; each key is read in order. Then it is loaded again, so many times."""
+    put again; a second checkpoint, `plain` or `combine`; each key is read in order. Then it is loaded again, so many times."""
     yield from (f"setup 3 1 {TARGET} 64", "moment 1", "assign 1 1 1000000", "settle")
-    checkpoint = ["checkpoint 1 1 plain", "settle"]
+    first, second = (["checkpoint 1 1 " + manner, "settle"] for manner in ("plain", second))
     reads = (line for number in range(keys) for line in (f"user 1 get 1 1 k{number:06}", "settle"))
-    for part in [puts(keys, keys), checkpoint, puts(keys, keys), checkpoint, reads][:parts]:
+    for part in [puts(keys, keys), first, puts(keys, keys), second, reads][:parts]:
         yield from part
     yield from ["stop s1 0 drop", "restart s1", "assign 1 1 1000000", "settle"] * loads
+
+
+def held_gets(keys, gets):
+    """One range with so many keys, a checkpoint of them, and one Get in each page, by which all pages are held; then so many Gets of
+    all keys by turns."""
+    yield from checkpoints(keys, 2)
+    for number in [*range(0, keys, KEYS_PER_PAGE), keys - 1]:
+        yield from (f"user 1 get 1 1 k{number:06}", "settle")
+    yield from settled(lambda number: [f"user 1 get 1 1 k{number * 7919 % keys:06}"], gets, REQUESTS_PER_SETTLE)
 
 
 def loads_behind(keys, since, loads):
@@ -163,15 +176,39 @@ def metadata_of(number):
     return 2 if number == 1 else 3 * (number // 2) + number % 2
 
 
-def many_ranges(ranges, routes):
-    """So many ranges, made of the first by splits, the oldest range first, so that split N is of range N and makes ranges 2 N and
-    2 N + 1; then so many routes, of all keys by turns."""
-    yield from (f"setup 3 1 {TARGET} 64", "moment 1", "assign 1 1 1000000", "settle")
-    within = {1: (0, 1 << 20)}
+def halves(ranges, keys):
+    """The splits that make so many ranges of one with so many keys, the oldest range first: of each the range, its middle key, and a
+    map of the first and the last key of each range that there is then. Split N is of range N and makes ranges 2 N and 2 N + 1."""
+    within = {1: (0, keys)}
     for number in range(1, ranges):
         low, high = within.pop(number)
         middle = (low + high) // 2
         within[2 * number], within[2 * number + 1] = (low, middle), (middle, high)
+        yield number, middle, within
+
+
+def gets_of_ranges(ranges, rounds):
+    """So many ranges, made by splits of one with some keys, and held by one server; then so many Gets in each, range by range, of
+    which the first reads its page, and a settle behind each. There are as many keys for each number of ranges, so that pages are
+    as full."""
+    yield from checkpoints(KEYS_OF_RANGES, 1)
+    for number, middle, within in halves(ranges, KEYS_OF_RANGES):
+        # Each split makes one extent of row data and two of metadata; behind the first one the log is 1, row data 2, metadata 3.
+        metadata = 3 if number == 1 else 3 * (number // 2) + 1 + number % 2
+        seals = [metadata, 1, 2] if number == 1 else [metadata, 3 * number]
+        yield from (f"split 1 {number} k{middle:06}", "settle")
+        yield from (line for extent in seals for line in (f"decide {extent}", "settle"))
+        yield from (f"assign {number + 1} 1 1000000", "settle")
+    yield from (line for number in range(ranges + 1, 2 * ranges) for line in (f"assign {number} 1 1000000", "settle"))
+    for round in range(rounds):
+        for number, (low, high) in sorted(within.items()):
+            yield from (f"user 1 get 1 {number} k{low + round % (high - low):06}", "settle")
+
+
+def many_ranges(ranges, routes):
+    """So many ranges, made of an empty one by splits; then so many routes, of all keys by turns."""
+    yield from (f"setup 3 1 {TARGET} 64", "moment 1", "assign 1 1 1000000", "settle")
+    for number, middle, _ in halves(ranges, 1 << 20):
         rows = 1 if number == 1 else 3 * number - 1
         yield from (f"split 1 {number} k{middle:07}", "settle", f"decide {metadata_of(number)}", "settle", f"decide {rows}", "settle")
         yield from (f"assign {number + 1} 1 1000000", "settle")
