@@ -6,11 +6,9 @@ use script_steps::{Step, Steps};
 use std::alloc::{AllocError, Global};
 use wire::Packet;
 
-/// A packet, and where it comes from and goes to.
+/// Where a packet comes from and goes to.
 #[derive(Clone, Copy)]
-pub(crate) struct Ends<'a> {
-    pub number: usize,
-    pub packet: &'a Packet,
+pub(crate) struct Ends {
     pub journey: Journey,
     /// The life line of its sender.
     pub from: Column,
@@ -58,11 +56,9 @@ impl<'a> Layout<'a> {
     }
 
     /// Where a packet comes from and goes to, if there is one of this number.
-    pub fn ends_of(&self, number: usize) -> Option<Ends<'a>> {
+    pub fn ends_of(&self, number: usize) -> Option<Ends> {
         let packet = self.sent.get(number)?;
         Some(Ends {
-            number,
-            packet,
             journey: *self.journeys.get(number)?,
             from: self.columns.get(packet.from)?,
             to: self.columns.get(packet.to)?,
