@@ -88,9 +88,6 @@ fn assign(
     now: u64,
     until: u64,
 ) -> Result<Told, MapFault> {
-    if map.is_stopped() {
-        return Err(MapFault::DiskFailed);
-    }
     match map.assign(alloc, RangeId(1), ServerNo(server), now, until) {
         Ok(step) => Ok(told(&step)),
         Err(fault) => Err(fault),
@@ -98,9 +95,6 @@ fn assign(
 }
 
 fn renew(alloc: Global, map: &mut Held, server: u8, until: u64) -> Result<Told, MapFault> {
-    if map.is_stopped() {
-        return Err(MapFault::DiskFailed);
-    }
     match map.renew(alloc, RangeId(1), ServerNo(server), until) {
         Ok(step) => Ok(told(&step)),
         Err(fault) => Err(fault),
@@ -108,13 +102,7 @@ fn renew(alloc: Global, map: &mut Held, server: u8, until: u64) -> Result<Told, 
 }
 
 fn knows_no_other(alloc: Global, map: &mut Held) -> bool {
-    if map.is_stopped() {
-        return false;
-    }
     let assigned = map.assign(alloc, RangeId(2), ServerNo(2), 0, 50).err();
-    if map.is_stopped() {
-        return false;
-    }
     let renewed = map.renew(alloc, RangeId(2), ServerNo(2), 50).err();
     assigned == Some(MapFault::NotOwner) && renewed == Some(MapFault::NotOwner)
 }
@@ -206,12 +194,7 @@ fn has_stopped(alloc: Global, map: &mut Held) -> bool {
     if !map.is_stopped() || map.file().told().is_some() {
         return false;
     }
-    let packet = Packet {
-        from: ActorId::User(1),
-        to: ActorId::Map,
-        body: route(),
-    };
-    match map.handle(alloc, &packet) {
+    match map.assign(alloc, RangeId(1), ServerNo(2), 0, 50) {
         Ok(step) => is_silent(&step),
         Err(_fault) => false,
     }

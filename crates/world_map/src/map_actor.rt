@@ -8,7 +8,7 @@ ghost use Rattle.world_map.specs.Seen.{MapSimulates, assign_refusal, moment_show
 ghost use Rattle.world_steps.specs.ActorStep.{IsFew, packets_alone};
 ghost use Rattle.world_stops.specs.LastRecord.{shown_if};
 
-use disk::{DiskFault, FileFault, MemDisk, RecordFile};
+use disk::{DiskFault, MemDisk, RecordFile};
 use pmap::{MapFault, PartitionMap};
 use std::alloc::{AllocError, Global};
 use std::marker::Model;
@@ -90,13 +90,11 @@ impl MapActor {
     {
         let file = match RecordFile::format(MemDisk::new(alloc)) {
             Ok(file) => file,
-            Err((DiskFault::Memory, _disk)) => return Err(AllocError),
-            Err(_) => unreachable!(),
+            Err((_fault, _disk)) => return Err(AllocError),
         };
         match PartitionMap::restart(alloc, file.into_disk()) {
             Ok(map) => Ok(MapActor { map, moment: 0 }),
-            Err((FileFault::Memory, _disk)) => Err(AllocError),
-            Err(_) => unreachable!(),
+            Err((_fault, _disk)) => Err(AllocError),
         }
     }
 
@@ -205,8 +203,7 @@ impl MapActor {
                 self.map = started;
                 Ok(())
             }
-            Err((FileFault::Memory, _disk)) => Err(AllocError),
-            Err(_) => unreachable!(),
+            Err((_fault, _disk)) => Err(AllocError),
         }
     }
 

@@ -1,12 +1,19 @@
-use Rattle.std.proofs.Common.{List, [], ◌∷◌, sym, subst, arith, ap, length}
-use Rattle.block_types.specs.declared.record.Record.{Record}
-use Rattle.block_types.specs.declared.record.Record.TheVariants.{Manage}
-use Rattle.model_streams.specs.declared.manager_record.ManagerRecord.TheVariants.{First}
-use Rattle.model_streams.specs.RecordBytes.{spelled}
-use Rattle.model_streams.specs.Manager.{first_catalog}
-use Rattle.manager_state.specs.Table.{ManagerTableState, SameCatalog, first_table}
-use Rattle.manager_state.specs.Replay.{TableIsReplay}
-use Rattle.manager_state.proofs.Spelling.{first_again, spelled_few}
-use Rattle.manager_state.proofs.Recovering.{first_replay, first_shows}
-use Rattle.manager.proofs.ReplaysRecords.{holding}
+use Rattle.std.proofs.Common.{rules}
+use Rattle.disk.proofs.Beginning.{begins, unmade}
 use Rattle.manager.proofs.manager.Manager.create.Goals as goal
+
+pub returns-in-Ok-format-clause-any_moment : goal.returns-in-Ok-format-clause-any_moment
+returns-in-Ok-format-clause-any_moment g c = begins _ _ _ _ _ _ c.begin.result (λ manager. g.D.Disk.state manager.file.disk) (λ refused. g.D.Disk.state refused.1)
+    (g.met.D.Disk.counts_now _) c.in-Ok-format.ensures.any_moment c.in-Ok-format.ensures.ok.1 c.in-Ok-format.ensures.ok.2 c.begin.ensures.any_moment
+
+pub returns-in-Err-clause-any_moment : goal.returns-in-Err-clause-any_moment
+returns-in-Err-clause-any_moment g c = unmade _ _ _ _ c.in-Err.ensures.any_moment
+
+pub returns-in_default-clause-failed : goal.returns-in_default-clause-failed
+returns-in_default-clause-failed g c = search rules
+
+pub returns-in_default-clause-steady : goal.returns-in_default-clause-steady
+returns-in_default-clause-steady g c = search rules
+
+pub returns-in-Ok-format-clause-version : goal.returns-in-Ok-format-clause-version
+returns-in-Ok-format-clause-version g c = search rules
