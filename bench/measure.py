@@ -315,7 +315,7 @@ COUNTED += [
         ("record at the map's restart in a script", lambda times: scripts.map_restarts(BACK, times)),
         ("value of 100 bytes that is loaded", lambda times: scripts.transactions(BACK, loads=times)),
         ("value of 5,000 bytes that is loaded by its place", lambda times: scripts.large_values(BACK, times)),
-        ("key of 100 bytes that is loaded behind two checkpoints", lambda times: scripts.checkpoints(BACK, 4, times)),
+        ("key of 100 bytes that is loaded after two checkpoints", lambda times: scripts.checkpoints(BACK, 4, times)),
     ]
 ]
 COUNTED += [
@@ -357,7 +357,7 @@ DIFFERENCES = [
     repeated("restart of the map with 20,000 records", lambda times: scripts.map_restarts(20_000, times)),
     repeated("load of 20,000 values of 100 bytes", lambda times: scripts.transactions(20_000, loads=times)),
     repeated("load of 1,000 values by place", lambda times: scripts.large_values(1_000, times)),
-    repeated("load of 20,000 keys behind two checkpoints", lambda times: scripts.checkpoints(20_000, 4, times)),
+    repeated("load of 20,000 keys after two checkpoints", lambda times: scripts.checkpoints(20_000, 4, times)),
     of_parts("first checkpoint of 20,000 keys", 2),
     of_parts("second checkpoint of 20,000 keys", 4),
     of_parts("second checkpoint of 20,000 keys, which combines", 4, "combine"),

@@ -73,14 +73,14 @@ impl Ord for Bytes {
     }
 }
 
-/// A group as its record spells it: the count of its blocks, and each block behind its size.
+/// A group as its record spells it: the count of its blocks, and each block after its size.
 #[derive(Clone)]
 pub struct Group {
     spelling: Rc<[u8]>,
 }
 
 impl Group {
-    /// The group of these blocks, each written by the function behind a buffer that is kept.
+    /// The group of these blocks, each written by the function after a buffer that is kept.
     pub fn of<T>(buffer: &mut Vec<u8>, blocks: impl Iterator<Item = T>, write: impl Fn(T, &mut Vec<u8>)) -> Group {
         let mut writer = GroupWriter::new(buffer);
         for block in blocks {
@@ -175,7 +175,7 @@ impl GroupWriter<'_> {
         GroupWriter { buffer }
     }
 
-    /// One more block, which is written behind the buffer.
+    /// One more block, which is written after the buffer.
     pub fn block(&mut self, write: impl FnOnce(&mut Vec<u8>)) {
         let start = self.buffer.len() + 4;
         self.buffer.extend_from_slice(&[0; 4]);

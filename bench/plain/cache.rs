@@ -6,7 +6,7 @@ use std::collections::BTreeMap;
 
 /// So many are held at most.
 const MOST: usize = 1_024;
-/// Before the first and behind the last.
+/// Before the first and after the last.
 const NONE: u32 = u32::MAX;
 
 pub enum Held {

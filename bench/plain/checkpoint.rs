@@ -199,7 +199,7 @@ impl Range {
         self.write_pages(context);
     }
 
-    /// Appends the next pages, or behind the last ones their index. One that fits no group is not written, and the checkpoint rests.
+    /// Appends the next pages, or after the last ones their index. One that fits no group is not written, and the checkpoint rests.
     fn write_pages(&mut self, context: &mut Context) {
         let (Some(checkpoint), Some(fixed)) = (self.checkpoint.as_mut(), &self.fixed) else { return };
         let Effects { buffer, text, .. } = context.effects;

@@ -11,7 +11,7 @@ pub enum Written {
     Stopped { stands: bool },
 }
 
-/// Letters, and a gate before each record and behind the last; whether its actor runs, and in which of its next device calls it
+/// Letters, and a gate before each record and after the last; whether its actor runs, and in which of its next device calls it
 /// stops (0: in none), and whether the bytes of that call are kept.
 pub struct Device {
     bytes: Vec<u8>,

@@ -91,7 +91,7 @@ impl Record {
         Some(Record { text, first, count })
     }
 
-    /// Puts what rows keep of the transactions behind the first so many, where the group stands in an extent from an offset on.
+    /// Puts what rows keep of the transactions after the first so many, where the group stands in an extent from an offset on.
     pub fn put(&self, extent: u64, offset: u32, skipped: u64, mut put: impl FnMut(Bytes, Cell)) -> Option<()> {
         let mut reader = Reader::new(&self.text);
         reader.take(HEAD)?;

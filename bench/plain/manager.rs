@@ -75,7 +75,7 @@ impl Manager {
         self.extents.get(extent as usize - 1).is_some_and(|extent| extent.sealed.is_none())
     }
 
-    /// Whether the manager runs on behind this record.
+    /// Whether the manager runs on after this record.
     fn write(&mut self, fields: &[&[u8]]) -> bool {
         self.device.write(fields) == Written::Stands
     }

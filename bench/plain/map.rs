@@ -122,7 +122,7 @@ impl Map {
         Ok(())
     }
 
-    /// Adds a record behind what it does to the table, which goes where the map stops in it.
+    /// Adds a record after what it does to the table, which goes where the map stops in it.
     fn write(&mut self, fields: &[&[u8]]) -> Written {
         let written = self.device.write(fields);
         self.drop_if_stopped();
