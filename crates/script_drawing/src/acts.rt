@@ -1,8 +1,9 @@
 //! What happens on the life line of an actor.
-use crate::canvas::{Canvas, Point, Symbol, label_width};
+use crate::canvas::{Canvas, Point, Symbol};
 use crate::layout::Layout;
+use crate::svg_text::SvgText;
 use script_steps::{Act, Step};
-use std::alloc::{AllocError, Global};
+use std::alloc::AllocError;
 use wire::{ActorId, Packet};
 
 /// How far from its life line the word of an act stands, in pixels.
@@ -59,13 +60,6 @@ const FRAME: Symbol = Symbol {
     stroke: "black",
 };
 
-/// It sends packets.
-const DOT: Symbol = Symbol {
-    outline: "M-2 0a2 2 0 1 0 4 0a2 2 0 1 0-4 0z",
-    fill: "black",
-    stroke: "black",
-};
-
 /// The actor on whose life line a step stands, if it stands on one.
 fn actor_of(step: &Step, sent: &[Packet]) -> Option<ActorId> {
     match step.act {
@@ -81,9 +75,15 @@ fn actor_of(step: &Step, sent: &[Packet]) -> Option<ActorId> {
     }
 }
 
+/// The place of a step on the life line of its actor, if it stands on one.
+fn place_of(layout: &Layout<'_>, step: &Step, y: u64) -> Option<Point> {
+    let column = layout.columns.get(actor_of(step, layout.sent)?)?;
+    Some(Point { x: column.x, y })
+}
+
 /// Draws an act at its place on the life line.
-fn write_act(canvas: &mut Canvas, at: Point, step: &Step) -> Result<(), AllocError> {
-    match step.act {
+fn write_act(canvas: &mut Canvas, at: Point, act: Act) -> Result<(), AllocError> {
+    match act {
         Act::Stop { actor: _ } => canvas.symbol(at, CROSS),
         Act::Restart { actor: _ } => canvas.symbol(at, DISC),
         Act::Cut { actor: _ } => {
@@ -93,7 +93,6 @@ fn write_act(canvas: &mut Canvas, at: Point, step: &Step) -> Result<(), AllocErr
         Act::Heal { actor: _ } => canvas.symbol(at, RING),
         Act::Order { actor: _ } => canvas.symbol(at, SQUARE),
         Act::Show { node: _ } => canvas.symbol(at, FRAME),
-        _ if step.first < step.end => canvas.symbol(at, DOT),
         _ => Ok(()),
     }
 }
@@ -104,20 +103,22 @@ fn first_word(line: &[u8]) -> &[u8] {
 }
 
 /// Writes the word of an act beside its place. A packet has its own label.
-fn write_word(canvas: &mut Canvas, at: Point, step: &Step, line: &[u8]) -> Result<(), AllocError> {
-    if matches!(step.act, Act::Submit { .. } | Act::Deliver { .. }) {
+fn write_word(canvas: &mut Canvas, at: Point, act: Act, line: &[u8]) -> Result<(), AllocError> {
+    if matches!(act, Act::Submit { .. } | Act::Deliver { .. }) {
         return Ok(());
     }
     let place = Point {
         x: at.x.saturating_add(WORD_GAP),
         y: at.y.saturating_add(4),
     };
-    canvas.titled_label(place, first_word(line), line)
+    canvas.begin_text(place, false)?;
+    canvas.title(line)?;
+    write!(canvas.text, "{}", SvgText(first_word(line)))?;
+    canvas.end_text()
 }
 
 /// Writes the numbers of the packets that a step sends beside its place.
 fn write_sent(
-    alloc: Global,
     canvas: &mut Canvas,
     at: Point,
     step: &Step,
@@ -126,15 +127,8 @@ fn write_sent(
     if step.first >= step.end {
         return Ok(());
     }
-    let last = step.end.saturating_sub(1);
-    let numbers = if step.first == last {
-        format!(in alloc; "{last}")?
-    } else {
-        format!(in alloc; "{}-{last}", step.first)?
-    };
     let x = if is_left {
         at.x.saturating_sub(SENT_GAP)
-            .saturating_sub(label_width(numbers.as_bytes()))
     } else {
         at.x.saturating_add(SENT_GAP)
     };
@@ -142,7 +136,13 @@ fn write_sent(
         x,
         y: at.y.saturating_sub(2),
     };
-    canvas.label(place, numbers.as_bytes())
+    canvas.begin_text(place, is_left)?;
+    let (first, last) = (step.first, step.end.saturating_sub(1));
+    write!(canvas.text, "{first}")?;
+    if first < last {
+        write!(canvas.text, "-{last}")?;
+    }
+    canvas.end_text()
 }
 
 /// Whether the right side of the place of a step is taken, by its word or by the arrow of the packet that it delivers.
@@ -157,31 +157,32 @@ fn is_right_taken(layout: &Layout<'_>, step: &Step, x: u64) -> bool {
     }
 }
 
-/// Draws what happens on the life lines.
+/// Draws a dot where a packet is delivered or a user asks for something, if packets are sent there.
+pub(crate) fn write_dots(canvas: &mut Canvas, layout: &Layout<'_>) -> Result<(), AllocError> {
+    canvas.begin_lines("stroke=\"black\" stroke-width=\"5\" stroke-linecap=\"round\"")?;
+    for (row, step) in layout.grid.rows.iter().zip(layout.steps) {
+        if step.first < step.end && matches!(step.act, Act::Submit { .. } | Act::Deliver { .. }) {
+            if let Some(at) = place_of(layout, step, row.y) {
+                canvas.line(at, at)?;
+            }
+        }
+    }
+    canvas.end_lines()
+}
+
+/// Draws what else happens on the life lines.
 pub(crate) fn write_acts(
-    alloc: Global,
     canvas: &mut Canvas,
     layout: &Layout<'_>,
     lines: &[&[u8]],
 ) -> Result<(), AllocError> {
-    canvas.begin("font-size=\"10\"")?;
+    canvas.begin("font-size=\"10\" stroke-width=\"1.5\"")?;
     for (row, step) in layout.grid.rows.iter().zip(layout.steps) {
-        let column = actor_of(step, layout.sent).and_then(|actor| layout.columns.get(actor));
-        if let Some(column) = column {
-            let at = Point {
-                x: column.x,
-                y: row.y,
-            };
+        if let Some(at) = place_of(layout, step, row.y) {
             let line = lines.get(step.line).copied().unwrap_or(&[]);
-            write_act(canvas, at, step)?;
-            write_word(canvas, at, step, line)?;
-            write_sent(
-                alloc,
-                canvas,
-                at,
-                step,
-                is_right_taken(layout, step, column.x),
-            )?;
+            write_act(canvas, at, step.act)?;
+            write_word(canvas, at, step.act, line)?;
+            write_sent(canvas, at, step, is_right_taken(layout, step, at.x))?;
         }
     }
     canvas.end()

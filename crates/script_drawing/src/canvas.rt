@@ -2,21 +2,20 @@
 use crate::svg_text::{ClippedText, SvgText};
 use std::alloc::{AllocError, Global};
 
-/// How wide a character of a label is taken to be, in pixels.
-const LABEL_CHARACTER: u64 = 6;
-
-/// How high a label is, and how much of it stands above its base line, in pixels.
-const LABEL_HEIGHT: u64 = 10;
-
-const LABEL_ASCENT: u64 = 8;
-
 /// The colours of arrows. A colour is no more than a second cue.
 const COLOURS: [&str; 6] = [
     "#1f4e9c", "#8a1f5c", "#1d6b3a", "#8a4b08", "#5b2a86", "#44546a",
 ];
 
-/// Printed, a drawing is as wide as the page, whose edge would cut off the margin on its right.
-const PRINTED: &str = "<style>@media print{svg:root{width:100%;height:auto}}</style>\n";
+/// A text has a white edge, which hides what passes below it, and a label a white band. Printed, a drawing is as wide as the page, whose
+/// edge would cut off the margin on its right.
+const STYLE: &str =
+    "text{paint-order:stroke;stroke:white;stroke-width:3px;stroke-linejoin:round}\n.band{stroke:white;stroke-width:10px;stroke-opacity:.85}\n@media print{svg:root{width:100%;height:auto}}\n";
+
+/// How wide a character of a label is taken to be, and how far the middle of its band is above its base line, in pixels.
+const LABEL_CHARACTER: u64 = 6;
+
+const BAND_RISE: u64 = 3;
 
 /// How far a loop stands out from its life line, in pixels.
 const LOOP_WIDTH: u64 = 36;
@@ -26,19 +25,6 @@ const LOOP_WIDTH: u64 = 36;
 pub(crate) struct Point {
     pub x: u64,
     pub y: u64,
-}
-
-/// How wide a label is, in pixels.
-pub(crate) fn label_width(label: &[u8]) -> u64 {
-    (label.len() as u64).saturating_mul(LABEL_CHARACTER)
-}
-
-/// The place in the middle between two.
-fn between(one: Point, other: Point) -> Point {
-    Point {
-        x: one.x.saturating_add(other.x) / 2,
-        y: one.y.saturating_add(other.y) / 2,
-    }
 }
 
 /// What stands on a life line where something happens.
@@ -65,7 +51,7 @@ pub(crate) struct Arrow {
 /// A document that is being written.
 #[derive(Drop)]
 pub(crate) struct Canvas {
-    text: String,
+    pub text: String,
 }
 
 impl Canvas {
@@ -77,24 +63,25 @@ impl Canvas {
             text,
             " font-size=\"11\" width=\"{width}\" height=\"{height}\" viewBox=\"0 0 {width} {height}\">"
         )?;
-        text.push_str(PRINTED)?;
-        let mut canvas = Canvas { text };
-        canvas.write_heads()?;
-        canvas.begin("fill=\"white\"")?;
-        canvas.rectangle(Point { x: 0, y: 0 }, width, height)?;
-        canvas.end()?;
-        Ok(canvas)
-    }
-
-    /// The heads of arrows, one of each colour.
-    fn write_heads(&mut self) -> Result<(), AllocError> {
+        write!(text, "<style>\n{STYLE}")?;
         for (index, colour) in COLOURS.iter().enumerate() {
             writeln!(
-                self.text,
+                text,
+                ".a{index}{{fill:none;stroke:{colour};stroke-width:1.2px;marker-end:url(#head{index})}}"
+            )?;
+        }
+        text.push_str("</style>\n")?;
+        for (index, colour) in COLOURS.iter().enumerate() {
+            writeln!(
+                text,
                 "<marker id=\"head{index}\" markerWidth=\"8\" markerHeight=\"8\" refX=\"8\" refY=\"4\" markerUnits=\"userSpaceOnUse\" orient=\"auto\"><path d=\"M0 1L8 4L0 7z\" fill=\"{colour}\"/></marker>"
             )?;
         }
-        Ok(())
+        writeln!(
+            text,
+            "<rect width=\"{width}\" height=\"{height}\" fill=\"white\"/>"
+        )?;
+        Ok(Canvas { text })
     }
 
     /// The whole document.
@@ -114,25 +101,19 @@ impl Canvas {
         self.text.push_str("</g>\n")
     }
 
-    /// A straight line.
-    pub fn line(&mut self, from: Point, to: Point) -> Result<(), AllocError> {
-        let (
-            Point { x, y },
-            Point {
-                x: right,
-                y: bottom,
-            },
-        ) = (from, to);
-        writeln!(self.text, "<path d=\"M{x} {y}L{right} {bottom}\"/>")
+    /// Begins a list of lines that have these attributes.
+    pub fn begin_lines(&mut self, attributes: &str) -> Result<(), AllocError> {
+        write!(self.text, "<path {attributes} d=\"")
     }
 
-    /// A rectangle, by its upper left corner and its size.
-    pub fn rectangle(&mut self, corner: Point, width: u64, height: u64) -> Result<(), AllocError> {
-        let Point { x, y } = corner;
-        writeln!(
-            self.text,
-            "<rect x=\"{x}\" y=\"{y}\" width=\"{width}\" height=\"{height}\"/>"
-        )
+    /// One of a list of lines. One that has no length is a dot, where the ends of lines are round.
+    pub fn line(&mut self, from: Point, to: Point) -> Result<(), AllocError> {
+        writeln!(self.text, "M{} {}L{} {}", from.x, from.y, to.x, to.y)
+    }
+
+    /// Ends the list of lines that was begun last.
+    pub fn end_lines(&mut self) -> Result<(), AllocError> {
+        self.text.push_str("\"/>\n")
     }
 
     /// A symbol with its middle at a place.
@@ -142,96 +123,93 @@ impl Canvas {
             fill,
             stroke,
         } = symbol;
-        write!(
-            self.text,
-            "<path transform=\"translate({} {})\"",
-            middle.x, middle.y
-        )?;
         writeln!(
             self.text,
-            " d=\"{outline}\" fill=\"{fill}\" stroke=\"{stroke}\" stroke-width=\"1.5\"/>"
+            "<path transform=\"translate({} {})\" d=\"{outline}\" fill=\"{fill}\" stroke=\"{stroke}\"/>",
+            middle.x, middle.y
         )
     }
 
-    /// An arrow, and the words that are shown where it is pointed at. One from a life line to itself is a loop.
-    pub fn arrow(&mut self, arrow: Arrow, words: &[u8]) -> Result<(), AllocError> {
-        self.write_course(arrow)?;
-        self.write_colour(arrow.sender % COLOURS.len())?;
-        if arrow.is_dashed {
-            self.text.push_str(" stroke-dasharray=\"4 3\"")?;
-        }
-        writeln!(self.text, "><title>{}</title></path>", SvgText(words))
-    }
-
-    /// The course of an arrow.
-    fn write_course(&mut self, arrow: Arrow) -> Result<(), AllocError> {
-        let Arrow {
-            tail,
-            head,
-            bend,
-            ..
-        } = arrow;
-        write!(self.text, "<path d=\"M{} {}", tail.x, tail.y)?;
+    /// An arrow. One from a life line to itself is a loop.
+    pub fn arrow(&mut self, arrow: Arrow) -> Result<(), AllocError> {
+        let Arrow { tail, head, .. } = arrow;
+        let dashes = if arrow.is_dashed {
+            " stroke-dasharray=\"4 3\""
+        } else {
+            ""
+        };
+        let colour = arrow.sender % COLOURS.len();
+        write!(
+            self.text,
+            "<path class=\"a{colour}\"{dashes} d=\"M{} {}",
+            tail.x, tail.y
+        )?;
         if tail.x == head.x {
             let side = tail.x.saturating_add(LOOP_WIDTH);
             write!(self.text, "C{side} {} {side} {} ", tail.y, head.y)?;
-        } else if bend > 0 {
-            let middle = between(tail, head);
+        } else if arrow.bend > 0 {
+            let middle = tail.x.saturating_add(head.x) / 2;
+            let height = tail.y.saturating_add(head.y) / 2;
             write!(
                 self.text,
-                "Q{} {} ",
-                middle.x,
-                middle.y.saturating_sub(bend)
+                "Q{middle} {} ",
+                height.saturating_sub(arrow.bend)
             )?;
         } else {
             self.text.push('L')?;
         }
-        write!(self.text, "{} {}\"", head.x, head.y)
+        writeln!(self.text, "{} {}\"/>", head.x, head.y)
     }
 
-    /// The colour of an arrow, and its head of that colour.
-    fn write_colour(&mut self, index: usize) -> Result<(), AllocError> {
-        match COLOURS.get(index) {
-            Some(colour) => write!(
-                self.text,
-                " stroke=\"{colour}\" marker-end=\"url(#head{index})\""
-            ),
-            None => Ok(()),
-        }
+    /// Begins a text at a place of its base line, or one that ends there.
+    pub fn begin_text(&mut self, at: Point, ends_there: bool) -> Result<(), AllocError> {
+        let anchor = if ends_there {
+            " text-anchor=\"end\""
+        } else {
+            ""
+        };
+        write!(self.text, "<text x=\"{}\" y=\"{}\"{anchor}>", at.x, at.y)
+    }
+
+    /// Ends the text that was begun last.
+    pub fn end_text(&mut self) -> Result<(), AllocError> {
+        self.text.push_str("</text>\n")
+    }
+
+    /// A label that begins at a place of its base line, or ends there, of characters that mean nothing in XML.
+    pub fn label(&mut self, at: Point, ends_there: bool, label: &str) -> Result<(), AllocError> {
+        let width = (label.len() as u64).saturating_mul(LABEL_CHARACTER);
+        let sign = if ends_there { "-" } else { "" };
+        writeln!(
+            self.text,
+            "<path class=\"band\" d=\"M{} {}h{sign}{width}\"/>",
+            at.x,
+            at.y.saturating_sub(BAND_RISE)
+        )?;
+        self.begin_text(at, ends_there)?;
+        self.text.push_str(label)?;
+        self.end_text()
+    }
+
+    /// What is shown where the text or the group that was begun last is pointed at.
+    pub fn title(&mut self, words: &[u8]) -> Result<(), AllocError> {
+        write!(self.text, "<title>{}</title>", SvgText(words))
     }
 
     /// A text that begins at a place of its base line. Where it takes more columns than these it is cut off, and the whole is shown
     /// where it is pointed at.
-    pub fn text(&mut self, at: Point, text: &[u8], columns: usize) -> Result<(), AllocError> {
-        let clipped = ClippedText { text, columns };
-        write!(self.text, "<text x=\"{}\" y=\"{}\">", at.x, at.y)?;
-        if clipped.is_clipped() {
-            write!(self.text, "<title>{}</title>", SvgText(text))?;
-        }
-        writeln!(self.text, "{clipped}</text>")
-    }
-
-    /// A label on white, which begins at a place of its base line.
-    pub fn label(&mut self, at: Point, label: &[u8]) -> Result<(), AllocError> {
-        let corner = Point {
-            x: at.x,
-            y: at.y.saturating_sub(LABEL_ASCENT),
-        };
-        self.begin("fill=\"white\" fill-opacity=\"0.85\"")?;
-        self.rectangle(corner, label_width(label), LABEL_HEIGHT)?;
-        self.end()?;
-        self.text(at, label, label.len())
-    }
-
-    /// A label, and the words that are shown where it is pointed at.
-    pub fn titled_label(
+    pub fn clipped_text(
         &mut self,
         at: Point,
-        label: &[u8],
-        words: &[u8],
+        text: &[u8],
+        columns: usize,
     ) -> Result<(), AllocError> {
-        writeln!(self.text, "<g><title>{}</title>", SvgText(words))?;
-        self.label(at, label)?;
-        self.end()
+        let clipped = ClippedText { text, columns };
+        self.begin_text(at, false)?;
+        if clipped.is_clipped() {
+            self.title(text)?;
+        }
+        write!(self.text, "{clipped}")?;
+        self.end_text()
     }
 }

@@ -1,8 +1,7 @@
 //! A whole drawing.
-use crate::acts::write_acts;
-use crate::arrows::{words_of_all, write_arrows, write_labels};
+use crate::acts::{write_acts, write_dots};
+use crate::arrows::write_arrows;
 use crate::canvas::Canvas;
-use crate::flights::flights_of;
 use crate::layout::Layout;
 use crate::life_lines::{write_life_lines, write_moments, write_names};
 use crate::margins::{
@@ -34,24 +33,16 @@ fn text_of(
     let width = width_of(&layout.columns, layout.steps);
     let height = layout.grid.bottom.saturating_add(FOOT);
     let mut canvas = Canvas::new(alloc, width, height)?;
-    let flights = flights_of(alloc, layout)?;
-    let words = words_of_all(alloc, layout, flights.as_slice())?;
     write_rules(&mut canvas, &layout.grid, width)?;
     write_life_lines(alloc, &mut canvas, layout)?;
-    write_moments(alloc, &mut canvas, layout)?;
-    write_arrows(&mut canvas, flights.as_slice(), words.as_slice())?;
-    write_acts(alloc, &mut canvas, layout, lines)?;
-    write_labels(
-        alloc,
-        &mut canvas,
-        layout,
-        flights.as_slice(),
-        words.as_slice(),
-    )?;
+    write_moments(&mut canvas, layout)?;
+    write_arrows(alloc, &mut canvas, layout)?;
+    write_dots(&mut canvas, layout)?;
+    write_acts(&mut canvas, layout, lines)?;
     write_names(alloc, &mut canvas, layout)?;
-    write_caption(alloc, &mut canvas, &layout.grid, all)?;
-    write_numbers(alloc, &mut canvas, &layout.grid)?;
-    write_events(alloc, &mut canvas, layout, lines)?;
+    write_caption(&mut canvas, &layout.grid, all)?;
+    write_numbers(&mut canvas, &layout.grid)?;
+    write_events(&mut canvas, layout, lines)?;
     write_notes(&mut canvas, layout)?;
     canvas.finish()
 }

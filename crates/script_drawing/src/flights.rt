@@ -2,10 +2,8 @@
 use crate::canvas::{Arrow, Point};
 use crate::columns::Column;
 use crate::grid::{LINE_HEIGHT, Row};
-use crate::journey::{Journey, delivered_by};
-use crate::layout::{Ends, Layout};
-use script_steps::Step;
-use std::alloc::{AllocError, Global};
+use crate::journey::Journey;
+use crate::layout::Ends;
 
 /// How far to the side an arrow goes that has an end outside the drawing, in pixels.
 const SHORT: u64 = 40;
@@ -38,11 +36,22 @@ pub(crate) enum Course {
     Lost,
 }
 
+impl Course {
+    /// The place of the step that delivers the packet, if there is one.
+    pub fn delivered(self) -> Option<usize> {
+        match self {
+            Course::First { delivered }
+            | Course::Again { delivered }
+            | Course::SentBefore { delivered }
+            | Course::DeliveredAfter { delivered } => Some(delivered),
+            Course::Lost => None,
+        }
+    }
+}
+
 /// An arrow and its label.
 #[derive(Clone, Copy)]
 pub(crate) struct Flight {
-    /// The number of the packet.
-    pub number: usize,
     pub course: Course,
     pub arrow: Arrow,
     /// Where the label begins, or ends where it goes to the left; on its base line.
@@ -61,7 +70,7 @@ fn aside(from: Column, to: Column, distance: u64) -> u64 {
 
 /// How far an arrow from one height to another is bent up, so that it passes above the heads of those that the same step sent to
 /// actors on its way. It never goes up.
-fn bend_of(ends: Ends, top: u64, bottom: u64) -> u64 {
+fn bend_of(ends: Ends<'_>, top: u64, bottom: u64) -> u64 {
     let columns = ends.from.place.abs_diff(ends.to.place) as u64;
     let most = bottom.saturating_sub(top) / 2;
     if columns > 1 {
@@ -71,18 +80,42 @@ fn bend_of(ends: Ends, top: u64, bottom: u64) -> u64 {
     }
 }
 
-/// An arrow that ends in a row, on the life line of the addressee.
-fn flight_to(
-    ends: Ends,
-    number: usize,
-    course: Course,
-    tail: Point,
-    bend: u64,
-    row: Row,
-) -> Flight {
-    let Ends { from, to, .. } = ends;
+/// Whether the step at a place delivers a packet for the first time, or again.
+fn course_at(journey: Journey, delivered: usize) -> Course {
+    if journey.first_delivery == Some(delivered) {
+        Course::First { delivered }
+    } else {
+        Course::Again { delivered }
+    }
+}
+
+/// The arrow of a packet that the step at a place delivers in a row, with the row of the step that sent it, if that is drawn.
+pub(crate) fn arrival(ends: Ends<'_>, sent: Option<Row>, delivered: usize, row: Row) -> Flight {
+    let Ends {
+        journey,
+        from,
+        to,
+        ..
+    } = ends;
+    let (course, tail, bend) = match sent {
+        Some(sent) => (
+            course_at(journey, delivered),
+            Point {
+                x: from.x,
+                y: sent.y,
+            },
+            bend_of(ends, sent.y, row.y),
+        ),
+        None => (
+            Course::SentBefore { delivered },
+            Point {
+                x: aside(to, from, SHORT),
+                y: row.top,
+            },
+            0,
+        ),
+    };
     Flight {
-        number,
         course,
         arrow: Arrow {
             tail,
@@ -99,41 +132,14 @@ fn flight_to(
     }
 }
 
-/// Whether the step at a place delivers a packet for the first time, or again.
-fn course_at(journey: Journey, delivered: usize) -> Course {
-    if journey.first_delivery == Some(delivered) {
-        Course::First { delivered }
-    } else {
-        Course::Again { delivered }
-    }
-}
-
-/// The arrow of a packet that the step at a place delivers in a row.
-fn arrival(layout: &Layout<'_>, ends: Ends, number: usize, delivered: usize, row: Row) -> Flight {
-    let Ends { journey, from, to } = ends;
-    match layout.row_of_sent(journey) {
-        Some(sent) => {
-            let course = course_at(journey, delivered);
-            let tail = Point {
-                x: from.x,
-                y: sent.y,
-            };
-            let bend = bend_of(ends, sent.y, row.y);
-            flight_to(ends, number, course, tail, bend, row)
-        }
-        None => {
-            let tail = Point {
-                x: aside(to, from, SHORT),
-                y: row.top,
-            };
-            flight_to(ends, number, Course::SentBefore { delivered }, tail, 0, row)
-        }
-    }
-}
-
 /// The arrow of a packet that is sent in a row and delivered outside the drawing or never: the one of this place among them, from 1.
-fn departure(ends: Ends, number: usize, row: Row, line: u64) -> Flight {
-    let Ends { journey, from, to } = ends;
+pub(crate) fn departure(ends: Ends<'_>, row: Row, line: u64) -> Flight {
+    let Ends {
+        journey,
+        from,
+        to,
+        ..
+    } = ends;
     let drop = line
         .saturating_mul(LINE_HEIGHT)
         .saturating_add(DEPARTURE_GAP);
@@ -143,7 +149,6 @@ fn departure(ends: Ends, number: usize, row: Row, line: u64) -> Flight {
     };
     let y = row.y.saturating_add(drop);
     Flight {
-        number,
         course,
         arrow: Arrow {
             tail: Point {
@@ -164,40 +169,4 @@ fn departure(ends: Ends, number: usize, row: Row, line: u64) -> Flight {
         },
         is_leftward: to.x < from.x,
     }
-}
-
-/// Adds the arrow that ends in the row of a step, and those that begin in it and have their ends outside the drawing.
-fn add_row(
-    flights: &mut Vec<Flight>,
-    layout: &Layout<'_>,
-    place: usize,
-    row: Row,
-    step: &Step,
-) -> Result<(), AllocError> {
-    if let Some(number) = delivered_by(step) {
-        if let Some(ends) = layout.ends_of(number) {
-            flights.push(arrival(layout, ends, number, place, row))?;
-        }
-    }
-    let mut line = 0u64;
-    for number in step.first..step.end.min(layout.sent.len()) {
-        if let Some(ends) = layout.ends_of(number) {
-            if ends.journey.is_open_at(layout.grid.end) {
-                line = line.saturating_add(1);
-                flights.push(departure(ends, number, row, line))?;
-            }
-        }
-    }
-    Ok(())
-}
-
-/// The arrows of a drawing, row by row.
-pub(crate) fn flights_of(alloc: Global, layout: &Layout<'_>) -> Result<Vec<Flight>, AllocError> {
-    let mut flights = Vec::new(alloc);
-    let rows = layout.grid.rows.iter().zip(layout.steps);
-    for (index, (row, step)) in rows.enumerate() {
-        let place = layout.grid.first.saturating_add(index);
-        add_row(&mut flights, layout, place, *row, step)?;
-    }
-    Ok(flights)
 }

@@ -6,9 +6,11 @@ use script_steps::{Step, Steps};
 use std::alloc::{AllocError, Global};
 use wire::Packet;
 
-/// Where a packet comes from and goes to.
+/// A packet, and where it comes from and goes to.
 #[derive(Clone, Copy)]
-pub(crate) struct Ends {
+pub(crate) struct Ends<'a> {
+    pub number: usize,
+    pub packet: &'a Packet,
     pub journey: Journey,
     /// The life line of its sender.
     pub from: Column,
@@ -56,9 +58,11 @@ impl<'a> Layout<'a> {
     }
 
     /// Where a packet comes from and goes to, if there is one of this number.
-    pub fn ends_of(&self, number: usize) -> Option<Ends> {
+    pub fn ends_of(&self, number: usize) -> Option<Ends<'a>> {
         let packet = self.sent.get(number)?;
         Some(Ends {
+            number,
+            packet,
             journey: *self.journeys.get(number)?,
             from: self.columns.get(packet.from)?,
             to: self.columns.get(packet.to)?,

@@ -28,12 +28,12 @@ fn write_stretches(
     stretches: &[Stretch],
     attributes: &str,
 ) -> Result<(), AllocError> {
-    canvas.begin(attributes)?;
+    canvas.begin_lines(attributes)?;
     for stretch in stretches {
         let Stretch { x, top, bottom } = *stretch;
         canvas.line(Point { x, y: top }, Point { x, y: bottom })?;
     }
-    canvas.end()
+    canvas.end_lines()
 }
 
 /// The stretches over which actors are stopped.
@@ -134,48 +134,40 @@ pub(crate) fn write_life_lines(
 }
 
 /// Writes the lines of moments, through all life lines.
-pub(crate) fn write_moments(
-    alloc: Global,
-    canvas: &mut Canvas,
-    layout: &Layout<'_>,
-) -> Result<(), AllocError> {
+pub(crate) fn write_moments(canvas: &mut Canvas, layout: &Layout<'_>) -> Result<(), AllocError> {
     let left = FIRST_COLUMN.saturating_sub(MOMENT_END);
     let right = layout.columns.right().saturating_add(MOMENT_END);
     for (row, step) in layout.grid.rows.iter().zip(layout.steps) {
         if let Act::Moment { now } = step.act {
-            let words = format!(in alloc; "moment {now}")?;
-            canvas.begin("stroke=\"black\" stroke-width=\"0.7\"")?;
-            canvas.line(Point { x: left, y: row.y }, Point { x: right, y: row.y })?;
-            canvas.end()?;
-            canvas.label(
-                Point {
-                    x: left,
-                    y: row.y.saturating_sub(2),
-                },
-                words.as_bytes(),
-            )?;
+            let y = row.y;
+            canvas.begin_lines("stroke=\"black\" stroke-width=\"0.7\"")?;
+            canvas.line(Point { x: left, y }, Point { x: right, y })?;
+            canvas.end_lines()?;
+            let above = y.saturating_sub(4);
+            canvas.begin_text(Point { x: left, y: above }, false)?;
+            write!(canvas.text, "moment {now}")?;
+            canvas.end_text()?;
         }
     }
     Ok(())
 }
 
 /// Writes the name of an actor above the first row, and again where it is repeated.
-fn write_name(canvas: &mut Canvas, headers: &[u64], x: u64, name: &[u8]) -> Result<(), AllocError> {
+fn write_name(canvas: &mut Canvas, headers: &[u64], x: u64, name: &str) -> Result<(), AllocError> {
     let columns = name.len().min(NAME_COLUMNS) as u64;
     let width = columns.saturating_mul(CHARACTER).saturating_add(14);
     for top in headers {
-        let corner = Point {
-            x: x.saturating_sub(width / 2),
-            y: top.saturating_add(5),
-        };
+        writeln!(
+            canvas.text,
+            "<rect x=\"{}\" y=\"{}\" width=\"{width}\" height=\"20\" fill=\"white\" stroke=\"black\"/>",
+            x.saturating_sub(width / 2),
+            top.saturating_add(5)
+        )?;
         let base = Point {
             x,
             y: top.saturating_add(19),
         };
-        canvas.begin("fill=\"white\" stroke=\"black\"")?;
-        canvas.rectangle(corner, width, 20)?;
-        canvas.end()?;
-        canvas.text(base, name, NAME_COLUMNS)?;
+        canvas.clipped_text(base, name.as_bytes(), NAME_COLUMNS)?;
     }
     Ok(())
 }
@@ -189,12 +181,8 @@ pub(crate) fn write_names(
     canvas.begin("text-anchor=\"middle\" font-weight=\"bold\"")?;
     for (place, rank) in layout.columns.ranks().iter().enumerate() {
         let name = format!(in alloc; "{}", ActorName(rank.actor()))?;
-        write_name(
-            canvas,
-            layout.grid.headers.as_slice(),
-            x_of(place),
-            name.as_bytes(),
-        )?;
+        let headers = layout.grid.headers.as_slice();
+        write_name(canvas, headers, x_of(place), name.as_str())?;
     }
     canvas.end()
 }

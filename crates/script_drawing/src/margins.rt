@@ -4,7 +4,7 @@ use crate::columns::Columns;
 use crate::grid::{Grid, LINE_HEIGHT};
 use crate::layout::Layout;
 use script_steps::{Act, Step};
-use std::alloc::{AllocError, Global};
+use std::alloc::AllocError;
 
 /// Where the numbers of events end and their words begin, in pixels from the left.
 const NUMBERS_RIGHT: u64 = 44;
@@ -32,44 +32,35 @@ const CAPTION_BASE: u64 = 19;
 const BASE_LINE: u64 = 4;
 
 /// Writes the numbers of the events, from 1.
-pub(crate) fn write_numbers(
-    alloc: Global,
-    canvas: &mut Canvas,
-    grid: &Grid,
-) -> Result<(), AllocError> {
+pub(crate) fn write_numbers(canvas: &mut Canvas, grid: &Grid) -> Result<(), AllocError> {
     canvas.begin("text-anchor=\"end\" fill=\"#666\"")?;
     for (index, row) in grid.rows.iter().enumerate() {
         let number = grid.first.saturating_add(index).saturating_add(1);
-        let words = format!(in alloc; "{number}")?;
         let at = Point {
             x: NUMBERS_RIGHT,
             y: row.y.saturating_add(BASE_LINE),
         };
-        canvas.text(at, words.as_bytes(), words.len())?;
+        canvas.begin_text(at, false)?;
+        write!(canvas.text, "{number}")?;
+        canvas.end_text()?;
     }
     canvas.end()
 }
 
 /// Writes the words of an event: the line of the script, or which packet is delivered.
-fn write_event(
-    alloc: Global,
-    canvas: &mut Canvas,
-    at: Point,
-    step: &Step,
-    line: &[u8],
-) -> Result<(), AllocError> {
+fn write_event(canvas: &mut Canvas, at: Point, step: &Step, line: &[u8]) -> Result<(), AllocError> {
     match step.act {
         Act::Deliver { number } => {
-            let words = format!(in alloc; "deliver {number}")?;
-            canvas.text(at, words.as_bytes(), WORD_COLUMNS)
+            canvas.begin_text(at, false)?;
+            write!(canvas.text, "deliver {number}")?;
+            canvas.end_text()
         }
-        _ => canvas.text(at, line, WORD_COLUMNS),
+        _ => canvas.clipped_text(at, line, WORD_COLUMNS),
     }
 }
 
 /// Writes the words of the events. The deliveries that a line made are indented below it.
 pub(crate) fn write_events(
-    alloc: Global,
     canvas: &mut Canvas,
     layout: &Layout<'_>,
     lines: &[&[u8]],
@@ -82,7 +73,7 @@ pub(crate) fn write_events(
             y: row.y.saturating_add(BASE_LINE),
         };
         let line = lines.get(step.line).copied().unwrap_or(&[]);
-        write_event(alloc, canvas, at, step, line)?;
+        write_event(canvas, at, step, line)?;
     }
     canvas.end()
 }
@@ -100,7 +91,7 @@ fn write_printed(
     };
     for line in printed.split(|byte| *byte == b'\n') {
         if !line.is_empty() {
-            canvas.text(at, line, NOTE_COLUMNS)?;
+            canvas.clipped_text(at, line, NOTE_COLUMNS)?;
         }
         at.y = at.y.saturating_add(LINE_HEIGHT);
     }
@@ -137,30 +128,30 @@ pub(crate) fn width_of(columns: &Columns, steps: &[Step]) -> u64 {
 
 /// Writes a thin line above each row, which leads the eye from an event to what is printed of it.
 pub(crate) fn write_rules(canvas: &mut Canvas, grid: &Grid, width: u64) -> Result<(), AllocError> {
-    canvas.begin("stroke=\"#eee\"")?;
+    canvas.begin_lines("stroke=\"#eee\"")?;
     for row in grid.rows.iter() {
         let y = row.top;
         canvas.line(Point { x: 0, y }, Point { x: width, y })?;
     }
-    canvas.end()
+    canvas.end_lines()
 }
 
 /// Writes which events are drawn.
 pub(crate) fn write_caption(
-    alloc: Global,
     canvas: &mut Canvas,
     grid: &Grid,
     all: usize,
 ) -> Result<(), AllocError> {
-    let (first, end) = (grid.first, grid.end);
-    let words = if first < end {
-        format!(in alloc; "events {} to {end} of {all}", first.saturating_add(1))?
-    } else {
-        format!(in alloc; "no events of {all}")?
-    };
     let base = Point {
         x: WORDS_LEFT,
         y: CAPTION_BASE,
     };
-    canvas.text(base, words.as_bytes(), words.len())
+    canvas.begin_text(base, false)?;
+    let (first, end) = (grid.first.saturating_add(1), grid.end);
+    if first <= end {
+        write!(canvas.text, "events {first} to {end} of {all}")?;
+    } else {
+        write!(canvas.text, "no events of {all}")?;
+    }
+    canvas.end_text()
 }

@@ -28,22 +28,12 @@ fn is_plain(byte: u8) -> bool {
     is_seen(byte) && byte != b'&' && byte != b'<' && byte != b'>' && byte != b'"'
 }
 
-/// Writes a text. Most have nothing to escape but the arrows of packets' lines, so what stands between these is written at once.
+/// Writes a text. Most have nothing to escape, and are written at once.
 fn write_text<W: fmt::Write>(f: &mut fmt::Formatter<W>, text: &str) -> fmt::Result {
-    for (place, part) in text.split('>').enumerate() {
-        if place > 0 {
-            f.write_str("&gt;")?;
-        }
-        write_part(f, part)?;
+    if text.as_bytes().iter().all(|byte| is_plain(*byte)) {
+        return f.write_str(text);
     }
-    Ok(())
-}
-
-fn write_part<W: fmt::Write>(f: &mut fmt::Formatter<W>, part: &str) -> fmt::Result {
-    if part.as_bytes().iter().all(|byte| is_plain(*byte)) {
-        return f.write_str(part);
-    }
-    for character in part.chars() {
+    for character in text.chars() {
         write_character(f, character)?;
     }
     Ok(())

@@ -17,34 +17,29 @@ const ALL: Part = Part {
 };
 
 const ARROWS: &[&str] = &[
-    "<path d=\"M340 41L448 63\" stroke=\"#1f4e9c\" marker-end=\"url(#head0)\"><title>0 u1 -&gt; m CreateStream request=u1.0 stream=0/metadata fence=0; sent in event 1; delivered in event 2</title></path>\n",
-    "<path d=\"M340 41L448 85\" stroke=\"#1f4e9c\" marker-end=\"url(#head0)\"><title>0 u1 -&gt; m CreateStream request=u1.0 stream=0/metadata fence=0; sent in event 1; delivered in event 3</title></path>\n",
-    "<path d=\"M448 85L408 104\" stroke=\"#8a1f5c\" marker-end=\"url(#head1)\" stroke-dasharray=\"4 3\"><title>2 m -&gt; u1 Refused request=u1.0 refusal=12 NameTaken; sent in event 3; never delivered</title></path>\n",
-    "<path d=\"M448 63L340 120\" stroke=\"#8a1f5c\" marker-end=\"url(#head1)\"><title>1 m -&gt; u1 Created request=u1.0; sent in event 2; delivered in event 4</title></path>\n",
-    // the labels of the arrows, and the numbers of what is sent
-    "<g><title>1 m -&gt; u1 Created request=u1.0; sent in event 2; delivered in event 4</title>\n<g fill=\"white\" fill-opacity=\"0.85\">\n<rect x=\"349\" y=\"122\" width=\"54\" height=\"10\"/>\n</g>\n<text x=\"349\" y=\"130\">1 Created</text>\n</g>\n",
-    "<text x=\"355\" y=\"73\">0 CreateStream</text>\n",
-    "<text x=\"319\" y=\"95\">0 CreateStream again</text>\n",
-    "<text x=\"314\" y=\"108\">2 Refused to u1</text>\n",
+    "<g><title>0 u1 -&gt; m CreateStream request=u1.0 stream=0/metadata fence=0; sent in event 1; delivered in event 2</title>\n<path class=\"a0\" d=\"M340 41L448 63\"/>\n<path class=\"band\" d=\"M439 70h-84\"/>\n<text x=\"439\" y=\"73\" text-anchor=\"end\">0 CreateStream</text>\n</g>\n",
+    "<g><title>0 u1 -&gt; m CreateStream request=u1.0 stream=0/metadata fence=0; sent in event 1; delivered in event 3</title>\n<path class=\"a0\" d=\"M340 41L448 85\"/>\n<path class=\"band\" d=\"M439 92h-120\"/>\n<text x=\"439\" y=\"95\" text-anchor=\"end\">0 CreateStream again</text>\n</g>\n",
+    "<g><title>2 m -&gt; u1 Refused request=u1.0 refusal=12 NameTaken; sent in event 3; never delivered</title>\n<path class=\"a1\" stroke-dasharray=\"4 3\" d=\"M448 85L408 104\"/>\n<path class=\"band\" d=\"M404 105h-90\"/>\n<text x=\"404\" y=\"108\" text-anchor=\"end\">2 Refused to u1</text>\n</g>\n",
+    "<g><title>1 m -&gt; u1 Created request=u1.0; sent in event 2; delivered in event 4</title>\n<path class=\"a1\" d=\"M448 63L340 120\"/>\n<path class=\"band\" d=\"M349 127h54\"/>\n<text x=\"349\" y=\"130\">1 Created</text>\n</g>\n",
+    // a dot where packets are sent, and their numbers
+    " stroke-linecap=\"round\" d=\"M340 41L340 41\nM448 63L448 63\nM448 85L448 85\n\"/>\n",
     "<text x=\"346\" y=\"39\">0</text>\n",
     "<text x=\"454\" y=\"83\">2</text>\n",
 ];
 
 /// A stop is a cross, with a dashed life line below it; a restart is a disc; a cut is a gap, and what ends it a ring.
 const MARKS: &[&str] = &[
-    "<path transform=\"translate(556 142)\" d=\"M-5-5L5 5M-5 5L5-5\" fill=\"none\" stroke=\"black\" stroke-width=\"1.5\"/>\n<g><title>stop n1 0 keep</title>\n",
-    "<g stroke=\"#888\" stroke-dasharray=\"2 5\">\n<path d=\"M556 142L556 186\"/>\n</g>\n",
-    "<path transform=\"translate(556 164)\" d=\"M-8 1L8-7V-1L-8 7z\" fill=\"white\" stroke=\"white\" stroke-width=\"1.5\"/>\n<path transform=\"translate(556 164)\" d=\"M-8 1L8-7M-8 7L8-1\" fill=\"none\" stroke=\"black\" stroke-width=\"1.5\"/>\n<g><title>cut n1</title>\n",
-    "<path transform=\"translate(556 186)\" d=\"M-5 0a5 5 0 1 0 10 0a5 5 0 1 0-10 0z\" fill=\"black\" stroke=\"black\" stroke-width=\"1.5\"/>\n<g><title>restart n1</title>\n",
-    "<path transform=\"translate(556 208)\" d=\"M-5 0a5 5 0 1 0 10 0a5 5 0 1 0-10 0z\" fill=\"white\" stroke=\"black\" stroke-width=\"1.5\"/>\n<g><title>heal n1</title>\n",
-    "<text x=\"566\" y=\"146\">stop</text>\n",
-    "<path d=\"M268 230L628 230\"/>\n",
-    "<text x=\"268\" y=\"228\">moment 7</text>\n",
+    "<path transform=\"translate(556 142)\" d=\"M-5-5L5 5M-5 5L5-5\" fill=\"none\" stroke=\"black\"/>\n<text x=\"566\" y=\"146\"><title>stop n1 0 keep</title>stop</text>\n",
+    "<path stroke=\"#888\" stroke-dasharray=\"2 5\" d=\"M556 142L556 186\n\"/>\n",
+    "<path transform=\"translate(556 164)\" d=\"M-8 1L8-7V-1L-8 7z\" fill=\"white\" stroke=\"white\"/>\n<path transform=\"translate(556 164)\" d=\"M-8 1L8-7M-8 7L8-1\" fill=\"none\" stroke=\"black\"/>\n<text x=\"566\" y=\"168\"><title>cut n1</title>cut</text>\n",
+    "<path transform=\"translate(556 186)\" d=\"M-5 0a5 5 0 1 0 10 0a5 5 0 1 0-10 0z\" fill=\"black\" stroke=\"black\"/>\n<text x=\"566\" y=\"190\"><title>restart n1</title>restart</text>\n",
+    "<path transform=\"translate(556 208)\" d=\"M-5 0a5 5 0 1 0 10 0a5 5 0 1 0-10 0z\" fill=\"white\" stroke=\"black\"/>\n<text x=\"566\" y=\"212\"><title>heal n1</title>heal</text>\n",
+    " d=\"M268 230L628 230\n\"/>\n<text x=\"268\" y=\"226\">moment 7</text>\n",
 ];
 
 const MARGINS: &[&str] = &[
     "<svg xmlns=\"http://www.w3.org/2000/svg\" font-family=\"monospace\" font-size=\"11\" width=\"765\" height=\"251\" viewBox=\"0 0 765 251\">\n",
-    "<g stroke=\"#888\">\n<path d=\"M340 30L340 241\"/>\n<path d=\"M448 30L448 241\"/>\n<path d=\"M556 30L556 241\"/>\n</g>\n",
+    "<path stroke=\"#888\" d=\"M340 30L340 241\nM448 30L448 241\nM556 30L556 241\n\"/>\n",
     "<text x=\"340\" y=\"19\">u1</text>\n",
     "<text x=\"448\" y=\"19\">m</text>\n",
     "<text x=\"556\" y=\"19\">n1</text>\n",
@@ -58,17 +53,15 @@ const MARGINS: &[&str] = &[
 /// Its only event delivers a packet that was sent before, and sends one that is delivered after it.
 const BETWEEN: &[&str] = &[
     "width=\"545\" height=\"75\"",
-    "<path d=\"M408 30L448 41\" stroke=\"#1f4e9c\" marker-end=\"url(#head0)\"><title>0 u1 -&gt; m CreateStream request=u1.0 stream=0/metadata fence=0; sent in event 1; delivered in event 2</title></path>\n",
-    "<path d=\"M448 41L408 60\" stroke=\"#8a1f5c\" marker-end=\"url(#head1)\"><title>1 m -&gt; u1 Created request=u1.0; sent in event 2; delivered in event 4</title></path>\n",
-    "<text x=\"307\" y=\"51\">0 CreateStream from u1</text>\n",
-    "<text x=\"314\" y=\"64\">1 Created to u1</text>\n",
+    "; sent in event 1; delivered in event 2</title>\n<path class=\"a0\" d=\"M408 30L448 41\"/>\n<path class=\"band\" d=\"M439 48h-132\"/>\n<text x=\"439\" y=\"51\" text-anchor=\"end\">0 CreateStream from u1</text>\n",
+    "; sent in event 2; delivered in event 4</title>\n<path class=\"a1\" d=\"M448 41L408 60\"/>\n<path class=\"band\" d=\"M404 61h-90\"/>\n<text x=\"404\" y=\"64\" text-anchor=\"end\">1 Created to u1</text>\n",
     "<text x=\"44\" y=\"45\">2</text>\n",
     "<text x=\"54\" y=\"19\">events 2 to 2 of 9</text>\n",
 ];
 
 /// The node was stopped before.
 const STOPPED: &[&str] = &[
-    "<g stroke=\"#888\" stroke-dasharray=\"2 5\">\n<path d=\"M340 30L340 52\"/>\n</g>\n",
+    "<path stroke=\"#888\" stroke-dasharray=\"2 5\" d=\"M340 30L340 52\n\"/>\n",
     "<text x=\"54\" y=\"19\">events 6 to 6 of 9</text>\n",
 ];
 
@@ -87,7 +80,7 @@ const COMES_EARLY: &str = "setup 3 1 4096 8\ndeliver 0\nuser 1 create 0\n";
 
 const EARLY: &[&str] = &[
     "<text x=\"54\" y=\"45\">deliver 0</text>\n",
-    "<path d=\"M340 63L380 82\" stroke=\"#1f4e9c\" marker-end=\"url(#head0)\" stroke-dasharray=\"4 3\"><title>0 u1 -&gt; m CreateStream request=u1.0 stream=0/metadata fence=0; sent in event 2; never delivered</title></path>\n",
+    "; sent in event 2; never delivered</title>\n<path class=\"a0\" stroke-dasharray=\"4 3\" d=\"M340 63L380 82\"/>\n",
 ];
 
 const SETTLES: &str =
@@ -98,8 +91,8 @@ const SETTLED: &[&str] = &[
     "<text x=\"54\" y=\"67\">settle</text>\n",
     "<text x=\"68\" y=\"89\">deliver 0</text>\n",
     "<text x=\"454\" y=\"171\">3-6</text>\n",
-    "<path d=\"M448 173L556 195\" stroke=\"#8a1f5c\" marker-end=\"url(#head1)\"><title>3 m -&gt; n1 Make extent=1 fence=0 target=4096 places=1,2,3; sent in event 7; delivered in event 8</title></path>\n",
-    "<path d=\"M448 173Q610 182 772 239\" stroke=\"#8a1f5c\" marker-end=\"url(#head1)\"><title>5 m -&gt; n3 Make",
+    "<g><title>3 m -&gt; n1 Make extent=1 fence=0 target=4096 places=1,2,3; sent in event 7; delivered in event 8</title>\n<path class=\"a1\" d=\"M448 173L556 195\"/>\n",
+    "<path class=\"a1\" d=\"M448 173Q610 182 772 239\"/>\n<path class=\"band\" d=\"M763 246h-36\"/>\n<text x=\"763\" y=\"249\" text-anchor=\"end\">5 Make</text>\n",
 ];
 
 const SPELLS: &str =
@@ -112,7 +105,7 @@ const SPELLED: &[&str] = &[
     "<text x=\"54\" y=\"115\">user 1 route \u{e9}\\u{fffe}\\\\</text>\n",
     "<text x=\"54\" y=\"150\"><title>user 1 route abcdefghijklmnopqrstuvwxyz</title>user 1 route abcdefghijklmn\u{2026}</text>\n",
     "<title>0 u1 -&gt; p Route request=u1.0 key=3c263e2227; sent in event 1; never delivered</title>",
-    "<path transform=\"translate(448 181)\" d=\"M-4-4H4V4H-4z\" fill=\"black\" stroke=\"black\" stroke-width=\"1.5\"/>\n<g><title>split 1 1 &lt;&amp;&gt;</title>\n",
+    "<path transform=\"translate(448 181)\" d=\"M-4-4H4V4H-4z\" fill=\"black\" stroke=\"black\"/>\n<text x=\"458\" y=\"185\"><title>split 1 1 &lt;&amp;&gt;</title>split</text>\n",
     "<text x=\"646\" y=\"185\">refused 30 NotOwner</text>\n",
 ];
 
@@ -184,7 +177,7 @@ fn drawings_show_what_happens(rt: HostRuntime) -> Result<(), Fail> {
     for (script, part, arrows, pieces) in CASES {
         let drawing = drawing_of(rt.alloc(), *script, *part)?;
         assert!(rt;
-            count(drawing.as_str(), " marker-end=") == *arrows,
+            count(drawing.as_str(), "<path class=\"a") == *arrows,
             "{script}"
         );
         assert!(rt; stands_alone(drawing.as_str()), "{script}");

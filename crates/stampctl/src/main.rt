@@ -47,11 +47,12 @@
 //!
 //! # Tests
 //!
-//! No test reads the standard error; it is looked at by hand. What no clause says of scripts, of runs and of the program's words is tested here, above all that it takes: whole scripts with all
-//! that they print, what drawings show, failing readers and writers, each stop of a run with transactions, words that are read or wrong, and what no
-//! clause of `world_streams` says: that its calls succeed where there is memory, runs of it followed by hand, with clients of streams over
-//! them, and the rows that a loaded table shows. Of these a test goes through cases, each a list of steps in their order: what is
-//! done, with the answer that is wanted, or what is seen then. Scripts that stand as files are run by `tests_rows`.
+//! No test reads the standard error; it is looked at by hand. What no clause says of scripts, of runs and of the program's words is
+//! tested here: what drawings show, texts that are no scripts, failing readers and writers, each stop of a run with transactions, words
+//! that are read or wrong, and what no clause of `world_streams` says: that its calls succeed where there is memory, runs of it followed
+//! by hand, with clients of streams over them, and the rows that a loaded table shows. Of these a test goes through cases, each a list
+//! of steps in their order: what is done, with the answer that is wanted, or what is seen then. Whole scripts, with all that they
+//! print, are files, and `tests_rows` runs them.
 //!
 //! Each actor of a run is asked whether it may go to another thread, in a struct of its own and behind a lock: a missing proof of it
 //! would show only where two threads share an actor.
@@ -59,8 +60,6 @@
 
 #[cfg(test)]
 mod checkpoint_runs;
-#[cfg(test)]
-mod checkpoint_scripts;
 #[cfg(test)]
 mod clients;
 #[cfg(test)]
@@ -78,15 +77,13 @@ mod many_values;
 #[cfg(test)]
 mod merge_giving_up;
 #[cfg(test)]
-mod merge_scripts;
-#[cfg(test)]
 mod page_rows;
-#[cfg(test)]
-mod printed;
 #[cfg(test)]
 mod range_failover;
 #[cfg(test)]
 mod range_refusals;
+#[cfg(test)]
+mod refused_scripts;
 #[cfg(test)]
 mod requests;
 #[cfg(test)]
@@ -96,13 +93,7 @@ mod runs;
 #[cfg(test)]
 mod same_runs;
 #[cfg(test)]
-mod scripts_run;
-#[cfg(test)]
-mod split_scripts;
-#[cfg(test)]
 mod stops;
-#[cfg(test)]
-mod tables;
 #[cfg(test)]
 mod threads;
 #[cfg(test)]

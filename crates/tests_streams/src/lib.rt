@@ -1,6 +1,6 @@
 //! What no clause says of the parts of the stream layer: that calls succeed where there is memory, and that spellings are those of
 //! docs/FORMATS.md. The tests of `block_types`, `blocks`, `disk`, `wire`, `replica`, `streams` and `world_checker` stand here, so that none
-//! of these is proved a second time for its tests, and so do those of `script_packets`, which spells packets and needs no more than they do.
+//! of these is proved a second time for its tests.
 //!
 //! A case is a list of events in their order, each with what is wanted of it. Cases are tables, so that a test costs the proof no
 //! more than the few functions that run them.
@@ -8,8 +8,6 @@
 
 #[cfg(test)]
 mod built_streams;
-#[cfg(test)]
-mod call_lines;
 #[cfg(test)]
 mod cases;
 #[cfg(test)]
@@ -22,8 +20,6 @@ mod honesty;
 mod long_texts;
 #[cfg(test)]
 mod named_streams;
-#[cfg(test)]
-mod packet_lines;
 #[cfg(test)]
 mod record_files;
 #[cfg(test)]
