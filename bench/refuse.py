@@ -1,16 +1,18 @@
 #!/usr/bin/env python3
-"""Runs stampctl on each row again and again, each time with other requests for memory refused, and judges each run.
+"""Runs programs on each row again and again, each time with other requests for memory refused, and judges each run.
 
 usage: bench/refuse.py [ROW..]
 
-A row is a script of crates/tests_rows/data: NAME beside NAME.stdout, which it prints, and NAME.status, with which it ends if not with 0.
-It is run twice for each request that it makes: with that one refused, and with that one and all after it. Such a run may end
+A row is a script of crates/tests_rows/data, which stampctl reads: NAME beside NAME.stdout, which it prints, and NAME.status, with which
+it ends if not with 0. Three more have no script: dump, of a small file of records, and the words replay and records of bench. A row is
+run twice for each request that it makes: with that one refused, and with that one and all after it. Such a run may end
 as the row does, or with status 1, and has then printed a beginning of the row's lines and `refused 22 Memory`. Writes and syncs of real
 files, where a program makes any, are failed in the same two ways, and `refused 20 DiskFailed` is then the last line.
 
 Each run that ends otherwise is a line on standard output, and each row has one that counts its runs; the last line counts all. The
-status is 1 where a run ended otherwise, and 2 where none was made. The program is crates/stampctl/out/stampctl, which the gate proves and
-builds, or the one that STAMPCTL names. The library of bench/refuse.c, which gcc builds, is preloaded to it."""
+status is 1 where a run ended otherwise, and 2 where none was made. The programs are crates/stampctl/out/stampctl and
+crates/bench/out/bench, which the gate proves and builds, or those that STAMPCTL and BENCH name. The library of bench/refuse.c, which gcc
+builds, is preloaded to them."""
 import itertools
 import os
 import pathlib
@@ -25,7 +27,8 @@ from typing import NamedTuple
 
 ROOT = pathlib.Path(__file__).resolve().parent.parent
 ROWS = ROOT / "crates" / "tests_rows" / "data"
-PROGRAM = pathlib.Path(os.environ.get("STAMPCTL", ROOT / "crates" / "stampctl" / "out" / "stampctl")).absolute()
+STAMPCTL = pathlib.Path(os.environ.get("STAMPCTL", ROOT / "crates" / "stampctl" / "out" / "stampctl")).absolute()
+BENCH = pathlib.Path(os.environ.get("BENCH", ROOT / "crates" / "bench" / "out" / "bench")).absolute()
 SECONDS = 60  # so long may a run take
 SHOWN = 100  # so much of a line is shown
 TOLD = re.compile(rb"requests (\d+) refused (\d+) calls (\d+) failed (\d+)\n\Z")
@@ -33,8 +36,17 @@ TOLD = re.compile(rb"requests (\d+) refused (\d+) calls (\d+) failed (\d+)\n\Z")
 KINDS = (("REFUSE", b"refused 22 Memory\n"), ("FAIL", b"refused 20 DiskFailed\n"))
 
 
+# A node's file of records: extent 1 is made, and a group of `abc` and `de` is appended.
+RECORDS = bytes.fromhex(
+    "58524631010000001801000000000000000100000000000000010000100001020301"
+    "0000001b020000000000000001000000000200000003616263000000026465"
+    "00"
+)
+
+
 class Row(NamedTuple):
     name: str
+    words: list
     script: pathlib.Path
     out: bytes
     status: int
@@ -51,7 +63,21 @@ class Ran(NamedTuple):
 def row_of(script):
     status = script.with_name(f"{script.name}.status")
     out = script.with_name(f"{script.name}.stdout").read_bytes()
-    return Row(script.name, script, out, int(status.read_text()) if status.exists() else 0)
+    return Row(script.name, [STAMPCTL], script, out, int(status.read_text()) if status.exists() else 0)
+
+
+def rows_of_words(folder):
+    """The rows that are no script."""
+    file, empty = pathlib.Path(folder, "records"), pathlib.Path(os.devnull)
+    file.write_bytes(RECORDS)
+    dumped = b"make 1 1 4096 1 2 3\nappend 1 0 5\n"
+    replayed = b"taken 1\ntaken 2\ntaken 3\nnext 4\nrefused 21 Damaged\n"
+    counted = b"records 2\nrecords 1\nrecords 1\ndamaged\n"
+    return [
+        Row("dump", [STAMPCTL, "dump", file], empty, dumped, 0),
+        Row("replay", [BENCH, "replay"], empty, replayed, 1),
+        Row("records", [BENCH, "records"], empty, counted, 0),
+    ]
 
 
 def run(library, row, more):
@@ -59,7 +85,7 @@ def run(library, row, more):
     with open(row.script, "rb") as script:
         words = {"stdin": script, "env": {"LD_PRELOAD": library, **more}, "timeout": SECONDS, "check": False}
         try:
-            ran = subprocess.run([PROGRAM], capture_output=True, **words)
+            ran = subprocess.run(row.words, capture_output=True, **words)
         except subprocess.TimeoutExpired as late:
             return Ran(None, late.stdout or b"", [])
     told = TOLD.search(ran.stderr)
@@ -135,30 +161,36 @@ def told_counts(made, runs, whole, otherwise):
     return f"{made} requests, {runs} runs, {whole} of them to the end, {otherwise} otherwise"
 
 
-def missing(names, scripts):
+def missing(names, rows):
     """What is not there without which no run is made, or nothing."""
-    if len(scripts) < len(names):
+    if len(rows) < len(names):
         return f"not all of these are rows: {' '.join(names)}"
-    if not os.access(PROGRAM, os.X_OK):
-        return f"{PROGRAM} is no program; ./run.sh --proved builds it, or STAMPCTL names another"
+    for program in {row.words[0] for row in rows}:
+        if not os.access(program, os.X_OK):
+            return f"{program} is no program; ./run.sh --proved builds it, or STAMPCTL and BENCH name others"
     return None if shutil.which("gcc") else "there is no gcc"
 
 
-def main(names):
-    scripts = sorted(path for path in ROWS.iterdir() if not path.suffix and (not names or path.name in names))
-    why = missing(names, scripts)
+def sweep_all(folder, names):
+    scripts = sorted(path for path in ROWS.iterdir() if not path.suffix)
+    rows = [row for row in [*map(row_of, scripts), *rows_of_words(folder)] if not names or row.name in names]
+    why = missing(names, rows)
     if why:
         print(f"bench/refuse.py: {why}", file=sys.stderr)
         return 2
     start = time.monotonic()
-    with tempfile.TemporaryDirectory() as folder:
-        library = f"{folder}/refuse.so"
-        subprocess.run(["gcc", "-O2", "-shared", "-fPIC", "-o", library, ROOT / "bench" / "refuse.c"], check=True)
-        counts = [sweep(library, row_of(script)) for script in scripts]
+    library = f"{folder}/refuse.so"
+    subprocess.run(["gcc", "-O2", "-shared", "-fPIC", "-o", library, ROOT / "bench" / "refuse.c"], check=True)
+    counts = [sweep(library, row) for row in rows]
     made, runs, whole, otherwise = map(sum, zip(*counts))
     told = told_counts(made, runs, whole, otherwise)
-    print(f"{len(scripts)} rows, {told}, {seconds():.0f} s of the processor, {time.monotonic() - start:.0f} s")
+    print(f"{len(rows)} rows, {told}, {seconds():.0f} s of the processor, {time.monotonic() - start:.0f} s")
     return 1 if otherwise else 0
+
+
+def main(names):
+    with tempfile.TemporaryDirectory() as folder:
+        return sweep_all(folder, names)
 
 
 if __name__ == "__main__":

@@ -6,7 +6,7 @@
 //! by turns of a tenth of N. `bench check N` checks the observations that N acknowledged appends of 1 KiB give, 64 to an
 //! extent, and `bench extent N` those of N appends to one extent, at most 16,384. `bench streams N` makes streams of N
 //! extents and finds each extent in its stream. Times are printed in microseconds. Without words it appends ten groups and
-//! prints how many were taken.
+//! prints how many were taken. `bench replay` and `bench records` measure nothing: they are rows for bench/refuse.py.
 #![tactic(auto)]
 
 mod checking;
@@ -14,6 +14,7 @@ mod device;
 mod error;
 mod extents;
 mod node;
+mod rows;
 
 use crate::error::Failure;
 use std::process::ExitCode;
@@ -21,7 +22,7 @@ use std::rt::{Clock, Env, Files};
 use std::{env, fs, io};
 
 const USAGE: &str =
-    "usage: bench node N | bench restart N | bench file N FILE | bench check N | bench extent N | bench streams N";
+    "usage: bench node N | bench restart N | bench file N FILE | bench check N | bench extent N | bench streams N | bench replay | bench records";
 
 fn run<R: AllocGlobal + Env + Files<File = fs::File> + Clock + Print>(
     rt: &R,
@@ -49,6 +50,8 @@ fn measured<R: AllocGlobal + Files<File = fs::File> + Clock + Print>(
             rt.println(format_args!("taken {taken}"))?;
             Ok(())
         }
+        [_, "replay"] => rows::replay(rt),
+        [_, "records"] => rows::records(rt),
         [_, name, count] => measure(rt, name, number_of(count)?),
         [_, "file", count, path] => device::measure(rt, number_of(count)?, path),
         _ => Err(Failure::Words),
@@ -75,8 +78,8 @@ fn main(rt: HostRuntime) -> io::Result<ExitCode> {
             Ok(ExitCode::from(2))
         }
         Err(Failure::Io(error)) => Err(error),
-        Err(Failure::Step) => {
-            rt.println("a step was refused")?;
+        Err(failure) => {
+            rt.println(failure.line())?;
             Ok(ExitCode::FAILURE)
         }
     }

@@ -5,7 +5,7 @@ use Rattle.block_types.specs.declared.record.Version.{Version}
 use Rattle.disk.specs.Disk.{DiskState, CountsNow, LeavesOnly}
 use Rattle.disk.specs.File.{IsBeforeOrAfter, HasNoRecord, HoldsAtMost}
 
-widened : (old new : DiskState) (P Q : List ℕ → Type 0) → ((c : List ℕ) → P c → Q c) → LeavesOnly old new P → LeavesOnly old new Q
+pub widened : (old new : DiskState) (P Q : List ℕ → Type 0) → ((c : List ℕ) → P c → Q c) → LeavesOnly old new P → LeavesOnly old new Q
 widened old new P Q more leaves = record {
   later = leaves.later;
   each = λ c left. more c (leaves.each c left);

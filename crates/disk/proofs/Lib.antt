@@ -9,3 +9,7 @@ pub mod Outcomes
 pub mod Steps
 pub mod Beginning
 pub mod Sent
+pub mod Faulting
+pub mod Made
+pub mod Making
+pub mod Texts

@@ -7,6 +7,10 @@ pub ok_more : {A B : Type 0} {P Q : A → Type 0} (r : Result A B) → ((x : A) 
 ok_more (Ok x) f h = f x h
 ok_more (Err y) f h = tt
 
+pub err_side : {A B : Type 0} (P : A → Type 0) (Q : B → Type 0) (r : Result A B) → MatchResult r P Q → IfErr r Q
+err_side P Q (Ok x) h = tt
+err_side P Q (Err y) h = h
+
 -- where the file, or its disk, is handed on, a crash leaves what it left before
 pub kept_moment : {A B D : Type 0} (state : D → DiskState) (was : DiskState) (P : List ℕ → Type 0) (file : Filed D) (r : Result A (B × D)) (of : A → Filed D)
     → LeavesOnly was (state file.disk) P → IfOk r (λ a. of a ≡ file) → IfErr r (λ e. e.1 ≡ file.disk)

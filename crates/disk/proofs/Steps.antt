@@ -1,5 +1,6 @@
 -- What a file's records are after a step that may append one, whatever the step gives.
-use Rattle.std.proofs.Common.{◌≡◌, false, ◌++◌, Option, Some, None, Result, Ok, Err, ap, append-nil, refl, sym, ◌∙◌}
+use Rattle.std.proofs.Common.{◌≡◌, ◌<◌, false, ◌++◌, Option, Some, None, Result, Ok, Err, ap, append-nil, refl, sym, ◌∙◌}
+use Rattle.std.specs.Prelude.{IsErrOf}
 use Rattle.block_types.specs.declared.record.Record.{Record}
 use Rattle.disk.specs.Appends.{Appends, Records, listed}
 use Rattle.disk.specs.Disk.{DiskState}
@@ -59,7 +60,13 @@ pub records_short : {D : Type 0} (T : Type 0) (state : D → DiskState) (old new
 records_short T state old new None h = ap (λ (f : Filed _). f.records) h.0
 records_short T state old new (Some r) h = (h.memory refl).records
 
--- and where the disk failed the file is stopped
+-- where the disk failed, it has failed in the step
+pub records_failed : {D T : Type 0} (state : D → DiskState) (old new : Filed D) (written : Option Record) (w : Result T DiskFault) →
+    Records state old new (listed written) w → IsErrOf w Failed → (state old.disk).failures < (state new.disk).failures
+records_failed state old new None w h bad = absurd (h.1 bad)
+records_failed state old new (Some r) w h bad = (h.failed bad).1
+
+-- and the file is stopped
 pub records_broken : {D : Type 0} (T : Type 0) (state : D → DiskState) (old new : Filed D) (written : Option Record) →
     Records {T = T} state old new (listed written) (Err Failed) → new.stopped ≡ false → ⊥
 records_broken T state old new None h up = h.1 refl

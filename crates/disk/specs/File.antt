@@ -51,6 +51,10 @@ pub record IsKept (d : DiskState) (v : Version) (end : ℕ) (stopped : Bool) (rs
   pub file : IsFileOf v rs d.seen
   pub running : stopped ≡ false → IsOpen d v end rs
 
+-- with the new records or without: all of them or none
+abbrev pub IsBeforeOrAfterAll : Version → List Record → List Record → List ℕ → Type 0
+IsBeforeOrAfterAll v rs added file = IsFileOf v rs file ⊎ IsFileOf v (rs ++ added) file
+
 -- with the new record or without
 abbrev pub IsBeforeOrAfter : Version → List Record → Record → List ℕ → Type 0
 IsBeforeOrAfter v rs r file = IsFileOf v rs file ⊎ IsFileOf v (rs ++ r ∷ []) file
@@ -59,6 +63,10 @@ IsBeforeOrAfter v rs r file = IsFileOf v rs file ⊎ IsFileOf v (rs ++ r ∷ [])
 abbrev pub HasNoRecord : List ℕ → Type 0
 HasNoRecord file = (v : Version) (rs : List Record) → IsFileOf v rs file → rs ≡ []
 
+-- as a file of records, it has none, or it is a file of these
+abbrev pub IsNoneOrAll : Version → List Record → List ℕ → Type 0
+IsNoneOrAll v rs file = HasNoRecord file ⊎ IsFileOf v rs file
+
 -- as a file of records, it has none, or this one alone
 abbrev pub HoldsAtMost : Version → Record → List ℕ → Type 0
 HoldsAtMost v r file = HasNoRecord file ⊎ IsBeforeOrAfter v [] r file
@@ -66,3 +74,7 @@ HoldsAtMost v r file = HasNoRecord file ⊎ IsBeforeOrAfter v [] r file
 -- the records after a stop in the n-th device call of an append
 abbrev pub stopped_records : ℕ → Bool → List Record → Record → List Record
 stopped_records n keep rs r = if keep && nat_le 3 n then rs ++ r ∷ [] else rs
+
+-- the same, where more than one record is put behind the last gate at once
+abbrev pub stopped_all : ℕ → Bool → List Record → List Record → List Record
+stopped_all n keep rs added = if keep && nat_le 3 n then rs ++ added else rs

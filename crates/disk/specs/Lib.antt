@@ -2,10 +2,13 @@ pub mod Disk
 pub mod History
 pub mod Image
 pub mod File
+pub mod Behind
 pub mod Filed
 pub mod Appends
 pub mod Faults
 pub mod Stopping
 pub mod Memory
 pub mod RealFile
+pub mod Faulting
+pub mod Made
 pub mod Laws

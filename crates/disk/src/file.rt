@@ -1,18 +1,20 @@
 //! A file of records: four letters, and then each record after a gate. A gate of 1 is open. Any other byte is
 //! closed, and there the file ends for its reader (docs/FORMATS.md).
 ghost use Rattle.std.specs.Prelude.{◌≡◌, ◌≢◌, ◌<◌, ◌≤◌, [], List, IsErrOf, IfOk, IfErr, MatchResult, None, Some, false, true, option_map};
+ghost use Rattle.std.specs.List.{AllByRecursion};
 ghost use Rattle.blocks.specs.Record.{Fits};
 ghost use Rattle.disk.specs.Appends.{Appends};
 ghost use Rattle.disk.specs.Disk.{LeavesOnly, IsUntouched, IsSteady, Only};
 ghost use Rattle.disk.specs.Memory.{memory_state};
-ghost use Rattle.disk.specs.File.{IsFileOf, IsBeforeOrAfter, HasNoRecord};
+ghost use Rattle.disk.specs.File.{IsFileOf, IsBeforeOrAfter, IsNoneOrAll, HasNoRecord};
 
 use crate::device::{Disk, DiskFault};
 use crate::fault::FileFault;
 use crate::memory::{MemDisk, Stop};
-use crate::opening::{find, write_header};
+use crate::opening::find;
 use crate::scan::read_file;
 use crate::text::{kept, spelled};
+use crate::writing::{put_records, write_file, write_header};
 use block_types::{BlockFault, Record, Version};
 use std::alloc::{AllocError, Global};
 use std::marker::Model;
@@ -78,10 +80,7 @@ impl<D: Disk> RecordFile<D> {
         let next = self.end + text.len();
         self.disk.reserve(next + 1)?;
         self.stopped = true;
-        self.disk.write_at(self.end + 1, &text)?;
-        self.disk.sync()?;
-        self.disk.write_at(self.end, &[1])?;
-        self.disk.sync()?;
+        put_records(self.end, &text, &mut self.disk)?;
         self.end = next;
         self.stopped = false;
         self.text = kept(text);
@@ -119,6 +118,45 @@ impl<D: Disk> RecordFile<D> {
         }
     }
 
+    /// Makes a file of these records on an empty disk, of version 1 for now. With records it makes six device calls: it writes
+    /// the header and a closed gate, and syncs; writes all behind the gate, and syncs; opens the gate, and syncs. Without any
+    /// it is made after two. A refusal hands the disk back. `Failed` (20) comes only where the disk's count of failures rose,
+    /// and leaves no record or all of them; `Memory` (22) changes nothing, since all growth comes before the first write.
+    pub fn with_records(
+        alloc: Global,
+        disk: D,
+        records: &[Record],
+    ) -> Result<RecordFile<D>, (DiskFault, D)>
+        requires empty { (D.state disk).seen ≡ [] }
+        requires durable { Only (D.state disk).seen (D.state disk).may_leave }
+        requires fit { AllByRecursion (Fits Version.V1) records.now }
+        ensures ok { IfOk result (λ file. (file.stopped ≡ false) × (file.version ≡ Version.V1) × (file.records ≡ records.now)
+            × Only (D.state file.disk).seen (D.state file.disk).may_leave) }
+        ensures steady { IsSteady (D.state disk) → MatchResult result
+            (λ file. IsSteady (D.state file.disk))
+            (λ e. (e.0 ≢ DiskFault.Failed) × IsSteady (D.state e.1)) }
+        // A crash at any moment of the call leaves no record, or all of them.
+        ensures any_moment { MatchResult result
+            (λ file. LeavesOnly (D.state disk) (D.state file.disk) (IsNoneOrAll Version.V1 records.now))
+            (λ e. LeavesOnly (D.state disk) (D.state e.1) (IsNoneOrAll Version.V1 records.now)) }
+        ensures memory { IfErr result (λ e. e.0 ≡ DiskFault.Memory → IsUntouched (D.state disk) (D.state e.1)) }
+        ensures failed { MatchResult result
+            (λ file. (D.state disk).failures ≤ (D.state file.disk).failures)
+            (λ e. e.0 ≡ DiskFault.Failed → (D.state disk).failures < (D.state e.1).failures) }
+    {
+        let mut disk = disk;
+        match write_file(alloc, NEW_VERSION, records, &mut disk) {
+            Ok(end) => Ok(RecordFile {
+                disk,
+                version: NEW_VERSION,
+                end,
+                stopped: false,
+                text: None,
+            }),
+            Err(fault) => Err((fault, disk)),
+        }
+    }
+
     /// Opens the file on a disk, as a crash may have left it. It syncs first, so that what it finds is all on the disk.
     /// A refusal hands the disk back. `Failed` (20) comes only where the disk's count of failures rose; `Damaged` (21)
     /// only where the bytes are no file of records: fewer than five of them, other letters, or an open gate with no
@@ -130,6 +168,9 @@ impl<D: Disk> RecordFile<D> {
         // Damaged only where the bytes are no file of records.
         ensures only { (v : Version) (rs : List Record) → IsFileOf v rs (D.state disk).seen
             → MatchResult result (λ file. (file.version ≡ v) × (file.records ≡ rs)) (λ e. e.0 ≢ FileFault.Damaged) }
+
+        // No file is opened where the bytes are none.
+        ensures no_file { ((v : Version) (rs : List Record) → IsFileOf v rs (D.state disk).seen → ⊥) → IfOk result (λ _. ⊥) }
 
         // A crash at any moment leaves what one before it might have left.
         ensures any_moment { MatchResult result
@@ -162,6 +203,9 @@ impl<D: Disk> RecordFile<D> {
         ensures only { (v : Version) (rs : List Record) → IsFileOf v rs (D.state disk).seen
             → MatchResult result (λ x. (x.0.version ≡ v) × (x.0.records ≡ rs)) (λ e. e.0 ≢ FileFault.Damaged) }
 
+        // No file is opened where the bytes are none.
+        ensures no_file { ((v : Version) (rs : List Record) → IsFileOf v rs (D.state disk).seen → ⊥) → IfOk result (λ _. ⊥) }
+
         // A crash at any moment leaves what one before it might have left.
         ensures any_moment { MatchResult result
             (λ x. LeavesOnly (D.state disk) (D.state x.0.disk) (D.state disk).may_leave)
@@ -187,6 +231,25 @@ impl<D: Disk> RecordFile<D> {
             }
             Err(fault) => Err((fault, disk)),
         }
+    }
+
+    /// The file again, from its disk, whether it has stopped or not. A refusal hands the disk back. `Failed` (20) comes only
+    /// where the disk's count of failures rose, and `Memory` (22) after the sync; `Damaged` (21) does not come.
+    pub fn reopened(self, alloc: Global) -> Result<RecordFile<D>, (FileFault, D)>
+        ensures same { IfOk result (λ file. (file.stopped ≡ false) × (file.version ≡ self.version) × (file.records ≡ self.records)) }
+        ensures undamaged { IfErr result (λ e. e.0 ≢ FileFault.Damaged) }
+        // A crash at any moment leaves what one before it might have left.
+        ensures any_moment { MatchResult result
+            (λ file. LeavesOnly (D.state self.disk) (D.state file.disk) (D.state self.disk).may_leave)
+            (λ e. LeavesOnly (D.state self.disk) (D.state e.1) (D.state self.disk).may_leave) }
+        ensures failed { MatchResult result
+            (λ file. (D.state self.disk).failures ≤ (D.state file.disk).failures)
+            (λ e. e.0 ≡ FileFault.Failed → (D.state self.disk).failures < (D.state e.1).failures) }
+        ensures steady { IsSteady (D.state self.disk) → MatchResult result
+            (λ file. IsSteady (D.state file.disk))
+            (λ e. (e.0 ≢ FileFault.Failed) × IsSteady (D.state e.1)) }
+    {
+        RecordFile::open(alloc, self.into_disk())
     }
 
     /// All its records, read again, which share the bytes that were read as those of `open_with_records` do. An error is out

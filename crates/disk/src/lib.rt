@@ -5,22 +5,28 @@
 //! those records. A file that the disk failed under is stopped until it is opened again.
 //!
 //! The crate touches disks through the trait `Disk` alone: `MemDisk` is one in memory that can be told to stop at a
-//! call, `FileDisk` is one over a file of the operating system. The bytes are those of docs/FORMATS.md, "Record file".
+//! call, `FaultDisk` is any disk of which one call fails, and `FileDisk` is one over a file of the operating system. The
+//! bytes are those of docs/FORMATS.md, "Record file".
 #![tactic(auto)]
 
 mod device;
 mod fault;
+mod fault_disk;
 mod file;
 mod history;
 mod image;
+mod laws;
 mod memory;
 mod opening;
 mod real;
 mod scan;
 mod text;
+mod writing;
 
 pub use device::{Disk, DiskFault};
 pub use fault::FileFault;
+pub use fault_disk::FaultDisk;
 pub use file::RecordFile;
+pub use laws::files_have_letters;
 pub use memory::{MemDisk, Stop};
 pub use real::FileDisk;

@@ -73,8 +73,24 @@ impl MemDisk {
         }
     }
 
+    /// A disk with these bytes, all of them made sure of, that is not told to stop. The bytes are not copied.
+    pub fn from_bytes(alloc: Global, bytes: Vec<u8>) -> MemDisk
+        ensures seen { (memory_state result).seen ≡ bytes.items }
+        ensures durable { Only (memory_state result).seen (memory_state result).may_leave }
+        ensures steady { IsSteady (memory_state result) }
+    {
+        let mut image = Image::of(alloc, bytes);
+        image.sync();
+        MemDisk {
+            image,
+            stop: None,
+            history: History::new(),
+        }
+    }
+
     /// Tells the disk to stop at the `calls`-th `write_at` or `sync` from now on, in place of what it was told before.
-    /// That call answers `Failed`; after it the disk goes on, with its bytes kept or as the last sync left it.
+    /// That call answers `Failed`; after it the disk goes on, with its bytes kept or as the last sync left it. A `FaultDisk`
+    /// that does not keep them loses those of the failing call alone, and what was written before it stays.
     pub fn stop_at(&mut self, calls: u64, keep: bool)
         ensures told { (memory_state self.new).stop ≡ Some (calls, keep) }
         ensures same { self.new ≡ record self.old { stop = Some (record { calls = calls; keep = keep }) } }
@@ -96,10 +112,7 @@ impl MemDisk {
         ensures durable { IfOk result (λ disk. Only (memory_state disk).seen (memory_state disk).may_leave) }
         ensures steady { IfOk result (λ disk. IsSteady (memory_state disk)) }
     {
-        let mut disk = MemDisk::new(alloc);
-        disk.image = Image::of(alloc, self.image.read(alloc)?);
-        disk.image.sync();
-        Ok(disk)
+        Ok(MemDisk::from_bytes(alloc, self.image.read(alloc)?))
     }
 
     /// It goes on, whatever it was told before.

@@ -1,9 +1,9 @@
-//! What is done to a disk before it is a record file: the header is written, or the last gate is found.
-ghost use Rattle.std.specs.Prelude.{◌≡◌, ◌≢◌, ◌<◌, ◌≤◌, ◌++◌, [], ◌∷◌, List, IsErrOf, OnOk, IfOk, MatchResult};
-ghost use Rattle.disk.specs.Disk.{LeavesOnly, IsUntouched, IsSteady, Only};
-ghost use Rattle.disk.specs.File.{header, records_in, IsFileOf, IsOpen, HasNoRecord};
+//! Finding the records and the last gate of a file, before it is a record file.
+ghost use Rattle.std.specs.Prelude.{◌≡◌, ◌≢◌, ◌<◌, ◌≤◌, List, IsErrOf, OnOk, IfOk, MatchResult};
+ghost use Rattle.disk.specs.Disk.{LeavesOnly, IsSteady};
+ghost use Rattle.disk.specs.File.{records_in, IsFileOf, IsOpen};
 
-use crate::device::{Disk, DiskFault};
+use crate::device::Disk;
 use crate::fault::FileFault;
 use crate::scan::read_file;
 use block_types::{Record, Version};
@@ -28,30 +28,4 @@ pub(crate) fn find<D: Disk>(
     let bytes = disk.read(alloc)?;
     let (version, records, end) = read_file(alloc, bytes)?;
     Ok((version, end, records))
-}
-
-/// Puts a file with no record on an empty disk.
-pub(crate) fn write_header<D: Disk>(version: Version, disk: &mut D) -> Result<(), DiskFault>
-    requires empty { (D.state disk.old).seen ≡ [] }
-    requires durable { Only (D.state disk.old).seen (D.state disk.old).may_leave }
-    ensures ok { OnOk result (IsOpen (D.state disk.new) version 4 []) }
-    ensures steady { IsSteady (D.state disk.old) → (IsErrOf result DiskFault.Failed → ⊥) × IsSteady (D.state disk.new) }
-    ensures any_moment { LeavesOnly (D.state disk.old) (D.state disk.new) HasNoRecord }
-    ensures memory { IsErrOf result DiskFault.Memory → IsUntouched (D.state disk.old) (D.state disk.new) }
-    ensures failed { IsErrOf result DiskFault.Failed → (D.state disk.old).failures < (D.state disk.new).failures }
-    ensures later { (D.state disk.old).failures ≤ (D.state disk.new).failures }
-{
-    let bytes = empty_file(version);
-    disk.reserve(5)?;
-    disk.write_at(0, &bytes)?;
-    disk.sync()
-}
-
-fn empty_file(version: Version) -> [u8; 5]
-    ensures { result ≡ header version ++ 0 ∷ [] }
-{
-    match version {
-        Version::V1 => [b'X', b'R', b'F', b'1', 0],
-        Version::V2 => [b'X', b'R', b'F', b'2', 0],
-    }
 }

@@ -1,6 +1,8 @@
-//! The text of a record that is appended, in a buffer that is used again.
+//! The text of records: of one that is appended, in a buffer that is used again, and of all those of a new file.
 ghost use Rattle.std.specs.Prelude.{◌≡◌, ◌++◌, ◌∷◌, [], IfOk};
+ghost use Rattle.std.specs.List.{AllByRecursion};
 ghost use Rattle.blocks.specs.Record.{spelling, Fits};
+ghost use Rattle.disk.specs.File.{opened};
 
 use block_types::{Memory, Record, Version};
 use blocks::encode_as;
@@ -45,4 +47,22 @@ pub(crate) fn kept(text: Vec<u8>) -> Option<Vec<u8>> {
     } else {
         None
     }
+}
+
+/// Records with an open gate before each, and a closed gate after the last.
+pub(crate) fn opened_text(
+    alloc: Global,
+    version: Version,
+    records: &[Record],
+) -> Result<Vec<u8>, Memory>
+    requires { AllByRecursion (Fits version) records.now }
+    ensures { IfOk result (λ text. text.items ≡ opened version records.now ++ 0 ∷ []) }
+{
+    let mut text = Vec::new(alloc);
+    for written in records {
+        text.push(1)?;
+        encode_as(version, written, &mut text)?;
+    }
+    text.push(0)?;
+    Ok(text)
 }

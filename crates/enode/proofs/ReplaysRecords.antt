@@ -1,8 +1,7 @@
 -- A node's replicas stay what the records of its file make of them.
-use Rattle.std.proofs.Common.{◌≡◌, ◌≢◌, ℕ, Bool, true, false, List, ◌++◌, Option, Some, None, Result, Ok, Err, IfOk, ap, sym, subst, ◌∙◌, inl, inr, refl, ⊎_elim, append-nil}
+use Rattle.std.proofs.Common.{◌≡◌, ◌≢◌, ℕ, true, List, ◌++◌, Option, Some, None, Result, Ok, Err, IfOk, ap, sym, subst, ◌∙◌, inl, ⊎_elim, append-nil}
 use Rattle.std.proofs.lemmas.Bool.Decides.{eqb_tells}
 use Rattle.disk.proofs.Steps.{records_ok, records_short}
-use Rattle.disk.specs.Appends.{Records}
 use Rattle.disk.specs.declared.device.DiskFault.{DiskFault}
 use Rattle.disk.specs.declared.device.DiskFault.TheVariants.{Failed, Memory}
 use Rattle.disk.specs.Disk.{DiskState}
@@ -15,10 +14,10 @@ use Rattle.replica.proofs.Replaying.{replay-here, replay-elsewhere, fit-push}
 use Rattle.model_streams.specs.Outcome.{Outcome}
 use Rattle.model_streams.specs.Node.{Replica, contents}
 use Rattle.model_streams.specs.Bounds.{FewWait, AreFew}
-use Rattle.model_streams.specs.StoppedActor.{IsMadeOf}
+use Rattle.disk.proofs.Made.{made_broken}
 use Rattle.model_streams.proofs.Bounds.{Bounded}
 use Rattle.model_streams.proofs.Replay.{Replays, IsWritten, applied_if}
-use Rattle.enode.specs.Node.{find, IsReplay}
+use Rattle.enode.specs.Node.{find, IsReplay, HoldsReplicas}
 use Rattle.enode.specs.Performs.{NodePerforms, listed}
 
 -- replay over the old records and what was written of extent e
@@ -35,27 +34,6 @@ module _ (n e : ℕ) (rs : List Record) (was : Option Replica) (before : content
   fit_written fits_before None about = ap (fit n) (append-nil rs) ∙ fits_before
   fit_written fits_before (Some r) about = fit-push n e rs r fits_before about.0 (ap (λ (c : Option Content). fits n c r) (sym before) ∙ about.1)
 
--- ---- what is made of the records, or of those without the last
-
--- while it runs, of all of them
-pub running : (Makes : List Record → Type 0) (stopped : Bool) (rs : List Record) → IsMadeOf Makes stopped rs → stopped ≡ false → Makes rs
-running Makes stopped rs (inl made) up = made
-running Makes stopped rs (inr less) up = absurd (let down = less.0 in cc)
-
--- a stop leaves it
-pub still_made : (Makes : List Record → Type 0) (was is : Bool) (old new : List Record) → IsMadeOf Makes was old → (was ≡ true → is ≡ true) → new ≡ old → IsMadeOf Makes is new
-still_made Makes was is old new (inl made) stops same = inl (subst Makes (sym same) made)
-still_made Makes was is old new (inr less) stops same = inr (stops less.0, less.1, less.2, same ∙ less.3, less.4)
-
--- and a step in which the disk failed
-module _ {D : Type 0} (T : Type 0) (state : D → DiskState) (old new : Filed D) (Makes : List Record → Type 0) where
-  made_broken : (written : Option Record) → Records {T = T} state old new (listed written) (Err Failed) → Makes old.records → IsMadeOf Makes new.stopped new.records
-  made_broken None h made = absurd (h.1 refl)
-  made_broken (Some r) h made = ⊎_elim
-      (λ without. inl (subst Makes (sym without) made))
-      (λ with_it. inr ((h.failed refl).0, old.records, r, with_it, made))
-      (h.either refl)
-
 -- ---- a rule
 
 same_replicas : (n : ℕ) (was is : List (ℕ × Replica)) → ((f : ℕ) → find is f ≡ find was f) → (rs : List Record) → IsReplay n was rs → IsReplay n is rs
@@ -66,24 +44,30 @@ same_replicas n was is same rs before = record {
 }
 
 pub stays : {D : Type 0} (state : D → DiskState) (n : ℕ) (was is : List (ℕ × Replica)) (old new : Filed D) (e : ℕ) (o : Outcome (Option Replica)) (w : Result Step DiskFault) →
-    IsReplay n was old.records → Replays n e (find was e) o → Bounded o → NodePerforms state was is old new e o w → IsMadeOf (IsReplay n is) new.stopped new.records
+    IsReplay n was old.records → Replays n e (find was e) o → Bounded o → NodePerforms state was is old new e o w → HoldsReplicas n is new.stopped new.records
 stays state n was is old new e o (Ok s) before rule bounded h =
     let records = records_ok state old new o.written s h.file in
-    inl (record {
-      each = λ f. ⊎_elim
-          (λ same. rw same.1 (ap contents h.here ∙ rule.is ∙ sym (replay_written n e old.records (find was e) (before.each e) o.written rule.written) ∙ ap (λ (x : List Record). replay e x) (sym records)))
-          (λ apart. ap contents (h.elsewhere f apart.1) ∙ before.each f ∙ sym (replay_others n e old.records (find was e) (before.each e) f apart.1 o.written rule.written) ∙ ap (λ (x : List Record). replay f x) (sym records))
-          (eqb_tells f e);
-      fits = ap (λ (x : List Record). fit n x) records ∙ fit_written n e old.records (find was e) (before.each e) before.fits o.written rule.written;
-      few = λ f. ⊎_elim
-          (λ same. subst (λ k. FewWait (find is k)) (sym same.1) (subst FewWait (sym h.here) bounded.waits))
-          (λ apart. subst FewWait (sym (h.elsewhere f apart.1)) (before.few f))
-          (eqb_tells f e);
-    })
+    let fitting = ap (λ (x : List Record). fit n x) records ∙ fit_written n e old.records (find was e) (before.each e) before.fits o.written rule.written in
+    record {
+      fit = fitting;
+      made = inl (record {
+        each = λ f. ⊎_elim
+            (λ same. rw same.1 (ap contents h.here ∙ rule.is ∙ sym (replay_written n e old.records (find was e) (before.each e) o.written rule.written) ∙ ap (λ (x : List Record). replay e x) (sym records)))
+            (λ apart. ap contents (h.elsewhere f apart.1) ∙ before.each f ∙ sym (replay_others n e old.records (find was e) (before.each e) f apart.1 o.written rule.written) ∙ ap (λ (x : List Record). replay f x) (sym records))
+            (eqb_tells f e);
+        fits = fitting;
+        few = λ f. ⊎_elim
+            (λ same. subst (λ k. FewWait (find is k)) (sym same.1) (subst FewWait (sym h.here) bounded.waits))
+            (λ apart. subst FewWait (sym (h.elsewhere f apart.1)) (before.few f))
+            (eqb_tells f e);
+      });
+    }
 stays state n was is old new e o (Err Memory) before rule bounded h =
-    inl (subst (IsReplay n is) (sym (records_short Step state old new o.written h.file)) (same_replicas n was is h.same old.records before))
+    let all = subst (IsReplay n is) (sym (records_short Step state old new o.written h.file)) (same_replicas n was is h.same old.records before) in
+    record { fit = all.fits; made = inl all }
 stays state n was is old new e o (Err Failed) before rule bounded h =
-    made_broken Step state old new (IsReplay n is) o.written h.file (same_replicas n was is h.same old.records before)
+    made_broken (IsReplay n is) (λ r. fit n r ≡ true) Step state old new o.written h.file (same_replicas n was is h.same old.records before) before.fits
+    (fit_written n e old.records (find was e) (before.each e) before.fits o.written rule.written)
 
 pub took_few : {D : Type 0} (state : D → DiskState) (was is : List (ℕ × Replica)) (old new : Filed D) (e : ℕ) (o : Outcome (Option Replica)) (w : Result Step DiskFault) →
     Bounded o → NodePerforms state was is old new e o w → IfOk w (λ step. AreFew step.packets step.notes)

@@ -1,10 +1,11 @@
 -- A node.
-use Rattle.std.specs.Prelude.{◌≡◌, ℕ, true, List, Option, Some, None}
+use Rattle.std.specs.Prelude.{◌≡◌, ℕ, Bool, true, List, Option, Some, None}
 use Rattle.std.specs.Map.{lookup}
 use Rattle.std.specs.BTreeMap.{is_at}
 use Rattle.std.specs.Ordering.{nat_cmp}
 use Rattle.block_types.specs.declared.record.Record.{Record}
 use Rattle.disk.specs.Filed.{Filed}
+use Rattle.disk.specs.Made.{IsMadeOf}
 use Rattle.replica.specs.Content.{Content}
 use Rattle.replica.specs.Replay.{replay, fit}
 use Rattle.model_streams.specs.Node.{Replica, fresh, contents}
@@ -30,6 +31,10 @@ pub record IsReplay (n : ℕ) (replicas : List (ℕ × Replica)) (rs : List Reco
   pub each : (e : ℕ) → contents (find replicas e) ≡ replay e rs
   pub fits : fit n rs ≡ true
   pub few : (e : ℕ) → FewWait (find replicas e)
+
+-- what a node holds comes of the records of its file, which fit
+abbrev pub HoldsReplicas : ℕ → List (ℕ × Replica) → Bool → List Record → Type 0
+HoldsReplicas n replicas stopped rs = IsMadeOf (IsReplay n replicas) (λ r. fit n r ≡ true) stopped rs
 
 -- and nothing is there that a stop drops
 pub record IsRestart (n : ℕ) (replicas : List (ℕ × Replica)) (rs : List Record) : Type 0 where

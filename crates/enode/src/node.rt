@@ -9,10 +9,9 @@ ghost use Rattle.replica.specs.State.{content_of};
 ghost use Rattle.replica.specs.Replay.{fit};
 ghost use Rattle.model_streams.specs.Node.{node_rule, extent_of, contents};
 ghost use Rattle.enode.specs.Faults.{as_rule};
-ghost use Rattle.enode.specs.Node.{find, IsReplay, IsRestart};
+ghost use Rattle.enode.specs.Node.{find, IsReplay, IsRestart, HoldsReplicas};
 ghost use Rattle.enode.specs.Performs.{NodePerforms};
 ghost use Rattle.model_streams.specs.Bounds.{AreFew};
-ghost use Rattle.model_streams.specs.StoppedActor.{IsMadeOf};
 
 use crate::fault::{NodeFault, answer};
 use crate::recovery::replicas_of;
@@ -48,14 +47,13 @@ impl<D: Disk + Drop> Drop for Node<D> {
 /// Each replica is what the records make of it, but for what a stop drops. Once it has stopped, the last record may be one
 /// that its replicas are without: the one at whose write the disk failed.
 impl<D: Disk> Model for Node<D> {
-    ghost use Rattle.model_streams.specs.StoppedActor.{IsMadeOf};
-    ghost use Rattle.enode.specs.Node.{NodeState, IsReplay};
+    ghost use Rattle.enode.specs.Node.{NodeState, HoldsReplicas};
 
     ghost Value = { NodeState D };
 
     ghost view = { λ n. record { number = n.number; replicas = n.replicas.entries; file = n.file } };
 
-    ghost invariant = { λ n. IsMadeOf (IsReplay n.number n.replicas.entries) n.file.stopped n.file.records };
+    ghost invariant = { λ n. HoldsReplicas n.number n.replicas.entries n.file.stopped n.file.records };
 }
 
 /// The node that the records of a file make.
@@ -96,14 +94,21 @@ impl<D: Disk> Node<D> {
         // 21 only where the bytes are no file of records that fit.
         ensures damaged { (v : Version) (rs : List Record) → IsFileOf v rs (D.state disk).seen → fit number rs ≡ true
             → IfErr result (λ e. e.0 ≢ NodeFault.Damaged) }
+
+        // No node comes of records that do not fit, or of bytes that are no file of records.
+        ensures unfit { (v : Version) (rs : List Record) → IsFileOf v rs (D.state disk).seen → (fit number rs ≡ true → ⊥)
+            → IfOk result (λ node. ⊥) }
+        ensures no_file { ((v : Version) (rs : List Record) → IsFileOf v rs (D.state disk).seen → ⊥) → IfOk result (λ node. ⊥) }
         ensures failed { IfErr result (λ e. e.0 ≡ NodeFault.Failed → (D.state disk).failures < (D.state e.1).failures) }
 
         // No other records make the node than those that the bytes are a file of.
         ensures only { (v : Version) (rs : List Record) → IsFileOf v rs (D.state disk).seen
             → IfOk result (λ node. (node.file.version ≡ v) × (node.file.records ≡ rs)) }
 
-        // The node of a disk that cannot fail has one.
-        ensures steady { IsSteady (D.state disk) → IfOk result (λ node. IsSteady (D.state node.file.disk)) }
+        // A disk that cannot fail does not, and stays one that cannot.
+        ensures steady { IsSteady (D.state disk) → MatchResult result
+            (λ node. IsSteady (D.state node.file.disk))
+            (λ e. (e.0 ≢ NodeFault.Failed) × IsSteady (D.state e.1)) }
 
         // A crash at any moment leaves what one before it might have left, also where it is refused.
         ensures any_moment { MatchResult result
@@ -124,6 +129,7 @@ impl<D: Disk> Node<D> {
         ensures performed { self.old.file.stopped ≡ false → NodePerforms D.state self.old.replicas self.new.replicas self.old.file self.new.file
             (extent_of packet.now.body) (node_rule self.old.number (find self.old.replicas (extent_of packet.now.body)) packet.now packet.now.body) (as_rule result) }
         ensures undamaged { IsErrOf result NodeFault.Damaged → ⊥ }
+        ensures failed { IsErrOf result NodeFault.Failed → (D.state self.old.file.disk).failures < (D.state self.new.file.disk).failures }
         ensures number { self.new.number ≡ self.old.number }
         ensures stopped { self.old.file.stopped ≡ true → (self.new ≡ self.old) × (result ≡ Ok (record { packets = []; notes = [] })) }
 
@@ -173,15 +179,17 @@ impl<D: Disk> Node<D> {
     /// records make of them, but for what a stop drops; once it has stopped, all its records or all but the last.
     pub fn file(&self) -> &RecordFile<D>
         ensures value { result.now ≡ self.now.file }
-        ensures holds { IsMadeOf (IsReplay self.now.number self.now.replicas) self.now.file.stopped self.now.file.records }
+        ensures holds { HoldsReplicas self.now.number self.now.replicas self.now.file.stopped self.now.file.records }
     {
         &self.file
     }
 
-    /// Its disk, whether it has stopped or not.
+    /// Its disk, whether it has stopped or not. Its bytes are a file of the records that the node had, and these fit: a restart
+    /// finds no damage (21).
     pub fn into_disk(self) -> D
         ensures disk { result ≡ self.file.disk }
         ensures stands { IsFileOf self.file.version self.file.records (D.state result).seen }
+        ensures fits { fit self.number self.file.records ≡ true }
     {
         let Node {
             number: _,

@@ -1,7 +1,8 @@
 -- The table stays what the manager's records make of it.
-use Rattle.std.proofs.Common.{◌≡◌, Bool, true, false, List, ◌++◌, Option, Some, None, Result, Ok, Err, IfOk, OnOk, refl, inl, inr, ⊎_elim, sym, ap, ◌∙◌, subst, append-nil}
+use Rattle.std.proofs.Common.{◌≡◌, Bool, List, [], ◌∷◌, ◌++◌, Option, Result, Ok, Err, IfOk, OnOk, inl, sym, ap, ◌∙◌, subst, append-nil}
 use Rattle.block_types.specs.declared.record.Record.{Record}
 use Rattle.block_types.specs.declared.record.Record.TheVariants.{Manage}
+use Rattle.disk.proofs.Made.{made_broken}
 use Rattle.disk.proofs.Steps.{records_ok, records_short}
 use Rattle.disk.specs.declared.device.DiskFault.{DiskFault}
 use Rattle.disk.specs.declared.device.DiskFault.TheVariants.{Failed, Memory}
@@ -10,7 +11,6 @@ use Rattle.disk.specs.Filed.{Filed}
 use Rattle.disk.specs.Appends.{Records}
 use Rattle.wire.specs.declared.packet.Step.{Step}
 use Rattle.model_streams.specs.Bounds.{AreFew}
-use Rattle.model_streams.specs.StoppedActor.{IsMadeOf}
 use Rattle.model_streams.specs.RecordBytes.{spelled}
 use Rattle.model_streams.specs.Outcome.{Outcome}
 use Rattle.model_streams.specs.Manager.{Catalog, forgotten_if}
@@ -22,7 +22,7 @@ use Rattle.manager_rules.specs.declared.plan.Change.TheVariants.{Nothing, Write,
 use Rattle.manager_rules.specs.declared.plan.Plan.{Plan}
 use Rattle.manager_rules.specs.Plan.{changed_by, written_by, CanChange, IsReadAgain}
 use Rattle.manager_rules.proofs.Planning.{Follows}
-use Rattle.manager.specs.Manager.{MakesCatalog, state_of}
+use Rattle.manager.specs.Manager.{MakesCatalog, AreOfManager, HoldsTable, state_of}
 use Rattle.manager.specs.Performs.{listed, ManagerPerforms}
 use Rattle.manager.specs.PlanPerformed.{PlanPerformed}
 
@@ -44,27 +44,6 @@ replay_makes t rs b h shows = record {
   extent = λ e. h.shows.extent e ∙ entry_forgotten t.extents e ∙ ap forgotten_if (sym (shows.extent e));
   fits = h.fits;
 }
-
--- ---- what is made of the records, or of those without the last
-
--- while it runs, of all of them
-pub running : (Makes : List Record → Type 0) (stopped : Bool) (rs : List Record) → IsMadeOf Makes stopped rs → stopped ≡ false → Makes rs
-running Makes stopped rs (inl made) up = made
-running Makes stopped rs (inr less) up = absurd (let down = less.0 in cc)
-
--- a stop leaves it
-pub still_made : (Makes : List Record → Type 0) (was is : Bool) (old new : List Record) → IsMadeOf Makes was old → (was ≡ true → is ≡ true) → new ≡ old → IsMadeOf Makes is new
-still_made Makes was is old new (inl made) stops same = inl (subst Makes (sym same) made)
-still_made Makes was is old new (inr less) stops same = inr (stops less.0, less.1, less.2, same ∙ less.3, less.4)
-
--- and a step in which the disk failed
-module _ {D : Type 0} (T : Type 0) (state : D → DiskState) (old new : Filed D) (Makes : List Record → Type 0) where
-  made_broken : (written : Option Record) → Records {T = T} state old new (listed written) (Err Failed) → Makes old.records → IsMadeOf Makes new.stopped new.records
-  made_broken None h made = absurd (h.1 refl)
-  made_broken (Some r) h made = ⊎_elim
-      (λ without. inl (subst Makes (sym without) made))
-      (λ with_it. inr ((h.failed refl).0, old.records, r, with_it, made))
-      (h.either refl)
 
 -- ---- a rule
 
@@ -92,15 +71,24 @@ performed state t u old new plan o w done again rule replays = record {
     notes (Ok s) e = ap (λ (x : Step). x.notes) e ∙ rule.notes
     notes (Err x) e = tt
 
+-- where all records make it, there is a first one, and they fit
+pub of_replay : {t : ManagerTableState} {rs : List Record} → TableIsReplay t rs → AreOfManager rs
+of_replay {rs = []} all = absurd (let none = all.replays in cc)
+of_replay {rs = r ∷ rs} all = (λ none. absurd cc, all.fits)
+
+pub holding : {t : ManagerTableState} {stopped : Bool} {rs : List Record} → TableIsReplay t rs → HoldsTable t stopped rs
+holding all = record { fit = of_replay all; made = inl all }
+
 pub stays : {D : Type 0} (state : D → DiskState) (t u : ManagerTableState) (old new : Filed D) (plan : Plan) (w : Result Step DiskFault) →
-    PlanPerformed state t u old new plan w → IsReadAgain plan.change → CanChange t plan.change → TableIsReplay t old.records → IsMadeOf (TableIsReplay u) new.stopped new.records
+    PlanPerformed state t u old new plan w → IsReadAgain plan.change → CanChange t plan.change → TableIsReplay t old.records → HoldsTable u new.stopped new.records
 stays state t u old new plan (Ok s) done again can replays =
-    inl (subst (λ (x : ManagerTableState). TableIsReplay x new.records) (sym done.after)
+    holding (subst (λ (x : ManagerTableState). TableIsReplay x new.records) (sym done.after)
     (subst (TableIsReplay (changed_by t plan.change)) (sym (records_ok state old new (written_by plan.change) s done.file)) (replay_after t old.records replays plan.change can again)))
 stays state t u old new plan (Err Memory) done again can replays =
-    inl (subst (λ (x : ManagerTableState). TableIsReplay x new.records) (sym done.same) (subst (TableIsReplay t) (sym (records_short Step state old new (written_by plan.change) done.file)) replays))
+    holding (subst (λ (x : ManagerTableState). TableIsReplay x new.records) (sym done.same) (subst (TableIsReplay t) (sym (records_short Step state old new (written_by plan.change) done.file)) replays))
 stays state t u old new plan (Err Failed) done again can replays =
-    made_broken Step state old new (TableIsReplay u) (written_by plan.change) done.file (subst (λ (x : ManagerTableState). TableIsReplay x old.records) (sym done.same) replays)
+    made_broken (TableIsReplay u) AreOfManager Step state old new (written_by plan.change) done.file (subst (λ (x : ManagerTableState). TableIsReplay x old.records) (sym done.same) replays)
+    (of_replay replays) (of_replay (replay_after t old.records replays plan.change can again))
 
 pub step_few : (plan : Plan) (w : Result Step DiskFault) → AreFew plan.step.packets plan.step.notes → IfOk w (λ s. s ≡ plan.step) → IfOk w (λ s. AreFew s.packets s.notes)
 step_few plan (Ok s) few e = subst (λ (x : Step). AreFew x.packets x.notes) (sym e) few

@@ -1,8 +1,9 @@
 -- The manager's state, and what its records make of it.
-use Rattle.std.specs.Prelude.{◌≡◌, ℕ, true, List, map, Some}
+use Rattle.std.specs.Prelude.{◌≡◌, ◌≢◌, ℕ, Bool, true, List, [], map, Some}
 use Rattle.block_types.specs.declared.record.Record.{Record}
 use Rattle.block_types.specs.declared.record.Record.TheVariants.{Manage}
 use Rattle.disk.specs.Filed.{Filed}
+use Rattle.disk.specs.Made.{IsMadeOf}
 use Rattle.streams.specs.Table.{StreamTableState, streams_of}
 use Rattle.model_streams.specs.declared.extent.Extent.{Extent}
 use Rattle.model_streams.specs.declared.manager_record.ManagerRecord.TheVariants.{First}
@@ -40,6 +41,14 @@ forgotten_state s = record s { extents = map forgotten s.extents }
 
 abbrev pub ManagerIsReplay : {D : Type 0} → ManagerState D → List Record → Type 0
 ManagerIsReplay s rs = TableIsReplay (table_of s) rs
+
+-- records of which a restart makes a manager: there is a first one, and each fits those before it
+abbrev pub AreOfManager : List Record → Type 0
+AreOfManager rs = (rs ≢ []) × (catalog_fits rs ≡ true)
+
+-- what a manager holds comes of the records of its file, which fit
+abbrev pub HoldsTable : ManagerTableState → Bool → List Record → Type 0
+HoldsTable t stopped rs = IsMadeOf (TableIsReplay t) AreOfManager stopped rs
 
 -- the records fit, and make a catalog that says what this one says without what a stop drops
 pub record MakesCatalog (rs : List Record) (b : Catalog) : Type 0 where

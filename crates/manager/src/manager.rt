@@ -1,28 +1,26 @@
 //! The manager.
-ghost use Rattle.std.specs.Prelude.{◌≡◌, ◌≢◌, ◌<◌, ◌≤◌, ◌⊎◌, List, [], ◌∷◌, Ok, Err, Some, None, false, true, IfOk, IfErr, MatchResult};
+ghost use Rattle.std.specs.Prelude.{◌≡◌, ◌≢◌, ◌<◌, ◌≤◌, ◌⊎◌, List, [], ◌∷◌, Ok, Err, Some, None, false, true, IfOk, IfErr, IsErrOf, MatchResult};
 ghost use Rattle.block_types.specs.Limits.{IsTarget};
 ghost use Rattle.block_types.specs.declared.record.Record.{Record};
 ghost use Rattle.block_types.specs.declared.record.Version.{Version};
-ghost use Rattle.disk.specs.Appends.{Appends};
-ghost use Rattle.disk.specs.Disk.{IsSteady, LeavesOnly, Only};
-ghost use Rattle.disk.specs.File.{IsFileOf, IsBeforeOrAfter, HoldsAtMost};
+ghost use Rattle.disk.specs.Disk.{IsSteady, IsUntouched, LeavesOnly, Only};
+ghost use Rattle.disk.specs.File.{IsFileOf, HoldsAtMost};
 ghost use Rattle.disk.specs.Memory.{memory_state};
 ghost use Rattle.wire.specs.declared.refusal.Refusal.{Refusal};
 ghost use Rattle.model_streams.specs.Bounds.{AreFew};
-ghost use Rattle.model_streams.specs.StoppedActor.{IsMadeOf};
 ghost use Rattle.model_streams.specs.Maps.{entry_at};
 ghost use Rattle.model_streams.specs.Manager.{Catalog, first_catalog, manager_rule, decide_rule, decide_refusal};
 ghost use Rattle.model_streams.specs.Replay.{catalog_fits};
 ghost use Rattle.manager_state.specs.Table.{plain, first_table};
-ghost use Rattle.manager.specs.Manager.{ShowsCatalog, ManagerIsReplay, first_record, forgotten_state, state_of};
+ghost use Rattle.manager.specs.Manager.{ShowsCatalog, ManagerIsReplay, AreOfManager, HoldsTable, first_record, forgotten_state, state_of, table_of};
 ghost use Rattle.manager.specs.Performs.{ManagerPerforms, as_rule, fault_of, sealing_at};
 
 use crate::fault::ManagerFault;
-use crate::performing::{decide_on, handle_on, write};
+use crate::performing::{decide_on, handle_on};
 use crate::sealing::{answer, refusal, sealing_of};
 use block_types::Record;
 use disk::{Disk, DiskFault, FileFault, MemDisk, RecordFile};
-use manager_state::ManagerTable;
+use manager_state::{ManagerTable, encode};
 use model_streams::ManagerRecord;
 use std::alloc::Global;
 use std::marker::Model;
@@ -45,66 +43,14 @@ impl<D: Disk + Drop> Drop for Manager<D> {
 /// Its table is what its records make of it, but for what a stop drops. Once it has stopped, the last record may be one that
 /// its table is without: the one at whose write the disk failed.
 impl<D: Disk> Model for Manager<D> {
-    ghost use Rattle.model_streams.specs.StoppedActor.{IsMadeOf};
-    ghost use Rattle.manager_state.specs.Replay.{TableIsReplay};
     ghost use Rattle.manager_state.specs.Table.{plain};
-    ghost use Rattle.manager.specs.Manager.{ManagerState, state_of};
+    ghost use Rattle.manager.specs.Manager.{ManagerState, HoldsTable, state_of};
 
     ghost Value = { ManagerState D };
 
     ghost view = { λ m. state_of m.table m.file };
 
-    ghost invariant = { λ m. IsMadeOf (TableIsReplay (plain m.table)) m.file.stopped m.file.records };
-}
-
-/// Adds the first record to a manager's file.
-fn write_first<D: Disk>(
-    alloc: Global,
-    file: &mut RecordFile<D>,
-    nodes: u8,
-    target: u32,
-) -> Result<(), DiskFault>
-    requires nodes { (3 ≤ nodes) × (nodes ≤ 12) }
-    requires target { IsTarget target }
-    requires running { file.old.stopped ≡ false }
-    ensures { Appends D.state file.old file.new (first_record nodes target) result }
-{
-    write(alloc, file, &ManagerRecord::First { nodes, target })
-}
-
-/// The manager of a file without a record and of the first table: its first record is written.
-fn begin<D: Disk>(
-    alloc: Global,
-    nodes: u8,
-    target: u32,
-    table: ManagerTable,
-    file: RecordFile<D>,
-) -> Result<Manager<D>, (DiskFault, D)>
-    requires nodes { (3 ≤ nodes) × (nodes ≤ 12) }
-    requires target { IsTarget target }
-    requires table { plain table ≡ first_table nodes target }
-    requires running { file.stopped ≡ false }
-    requires empty { file.records ≡ [] }
-    ensures running { IfOk result (λ m. m.file.stopped ≡ false) }
-    ensures shows { IfOk result (λ m. ShowsCatalog m (first_catalog nodes target)) }
-    ensures records { IfOk result (λ m. m.file.records ≡ first_record nodes target ∷ []) }
-    ensures version { IfOk result (λ m. m.file.version ≡ file.version) }
-    ensures replays { IfOk result (λ m. ManagerIsReplay m m.file.records) }
-    ensures failed { IfErr result (λ e. e.0 ≡ DiskFault.Failed → (D.state file.disk).failures < (D.state e.1).failures) }
-    ensures any_moment { MatchResult result
-        (λ m. LeavesOnly (D.state file.disk) (D.state m.file.disk)
-        (λ c. (D.state file.disk).may_leave c ⊎ IsBeforeOrAfter file.version file.records (first_record nodes target) c))
-        (λ e. LeavesOnly (D.state file.disk) (D.state e.1)
-        (λ c. (D.state file.disk).may_leave c ⊎ IsBeforeOrAfter file.version file.records (first_record nodes target) c)) }
-    ensures steady { IsSteady (D.state file.disk) → MatchResult result
-        (λ m. IsSteady (D.state m.file.disk))
-        (λ e. (e.0 ≢ DiskFault.Failed) × IsSteady (D.state e.1)) }
-{
-    let mut file = file;
-    match write_first(alloc, &mut file, nodes, target) {
-        Ok(()) => Ok(Manager { table, file }),
-        Err(fault) => Err((fault, file.into_disk())),
-    }
+    ghost invariant = { λ m. HoldsTable (plain m.table) m.file.stopped m.file.records };
 }
 
 /// The manager that the records of a file make.
@@ -155,6 +101,9 @@ impl<D: Disk> Manager<D> {
             (λ m. IsSteady (D.state m.file.disk))
             (λ e. (e.0 ≢ DiskFault.Failed) × IsSteady (D.state e.1)) }
 
+        // Memory (22) leaves the disk as it was: all growth comes before the first write.
+        ensures memory { IfErr result (λ e. e.0 ≡ DiskFault.Memory → IsUntouched (D.state disk) (D.state e.1)) }
+
         // A crash at any moment leaves a file with no record, or with the first alone, also where it is refused.
         ensures any_moment { MatchResult result
             (λ m. LeavesOnly (D.state disk) (D.state m.file.disk) (HoldsAtMost Version.V1 (first_record nodes target)))
@@ -163,8 +112,11 @@ impl<D: Disk> Manager<D> {
         let Ok(table) = ManagerTable::new(alloc, nodes, target) else {
             return Err((DiskFault::Memory, disk));
         };
-        match RecordFile::format(disk) {
-            Ok(file) => begin(alloc, nodes, target, table, file),
+        let Ok(text) = encode(alloc, &ManagerRecord::First { nodes, target }) else {
+            return Err((DiskFault::Memory, disk));
+        };
+        match RecordFile::with_records(alloc, disk, &[Record::Manage { text }]) {
+            Ok(file) => Ok(Manager { table, file }),
             Err(refused) => Err(refused),
         }
     }
@@ -181,14 +133,21 @@ impl<D: Disk> Manager<D> {
         // 21 only where the bytes are no file of records that fit, the first of them among them.
         ensures damaged { (v : Version) (rs : List Record) → IsFileOf v rs (D.state disk).seen → rs ≢ [] → catalog_fits rs ≡ true
             → IfErr result (λ e. e.0 ≢ FileFault.Damaged) }
+
+        // No manager comes of records without a first one or that do not fit, or of bytes that are no file of records.
+        ensures unfit { (v : Version) (rs : List Record) → IsFileOf v rs (D.state disk).seen → (AreOfManager rs → ⊥)
+            → IfOk result (λ m. ⊥) }
+        ensures no_file { ((v : Version) (rs : List Record) → IsFileOf v rs (D.state disk).seen → ⊥) → IfOk result (λ m. ⊥) }
         ensures failed { IfErr result (λ e. e.0 ≡ FileFault.Failed → (D.state disk).failures < (D.state e.1).failures) }
 
         // No other records make the manager than those that the bytes are a file of.
         ensures only { (v : Version) (rs : List Record) → IsFileOf v rs (D.state disk).seen
             → IfOk result (λ m. (m.file.version ≡ v) × (m.file.records ≡ rs)) }
 
-        // The manager of a disk that cannot fail has one.
-        ensures steady { IsSteady (D.state disk) → IfOk result (λ m. IsSteady (D.state m.file.disk)) }
+        // A disk that cannot fail does not, and stays one that cannot.
+        ensures steady { IsSteady (D.state disk) → MatchResult result
+            (λ m. IsSteady (D.state m.file.disk))
+            (λ e. (e.0 ≢ FileFault.Failed) × IsSteady (D.state e.1)) }
 
         // A crash at any moment leaves what one before it might have left, also where it is refused.
         ensures any_moment { MatchResult result
@@ -209,6 +168,8 @@ impl<D: Disk> Manager<D> {
             → ManagerPerforms D.state self.old self.new (manager_rule b packet.now packet.now.body) result }
         ensures stopped { self.old.file.stopped ≡ true → (self.new ≡ self.old) × (result ≡ Ok (record { packets = []; notes = [] })) }
 
+        ensures failed { IsErrOf result DiskFault.Failed → (D.state self.old.file.disk).failures < (D.state self.new.file.disk).failures }
+
         // A step sends no more than a caller can make room for beforehand.
         ensures few { IfOk result (λ step. AreFew step.packets step.notes) }
 
@@ -222,23 +183,21 @@ impl<D: Disk> Manager<D> {
     }
 
     /// Has an extent sealed at the least length that a place has told, or has its places told again where it is sealed: the
-    /// rule of the table, exactly. A stopped manager does nothing. 1: there is no such extent. 10: it is not sealed, and no
+    /// rule of the table, exactly. The manager has to run (`is_stopped`). 1: there is no such extent. 10: it is not sealed, and no
     /// place has told a length. 20: the disk failed, and the manager is stopped until it is restarted; its records are the
     /// old ones, with the new one or without. 22: no memory. After 1, 10 and 22 nothing has changed.
     pub fn decide(&mut self, alloc: Global, extent: ExtentId) -> Result<Step, ManagerFault>
-        ensures refused { self.old.file.stopped ≡ false → (r : Refusal) → decide_refusal (entry_at self.old.extents extent) ≡ Some r
+        requires running { self.old.file.stopped ≡ false }
+        ensures refused { (r : Refusal) → decide_refusal (entry_at self.old.extents extent) ≡ Some r
             → (self.new ≡ self.old) × (result ≡ Err (fault_of r)) }
-        ensures performed { self.old.file.stopped ≡ false → decide_refusal (entry_at self.old.extents extent) ≡ None
+        ensures performed { decide_refusal (entry_at self.old.extents extent) ≡ None
             → (b : Catalog) → ShowsCatalog self.old b → ManagerPerforms D.state self.old self.new (decide_rule b extent (b.extent extent)) (as_rule result) }
         ensures taken { decide_refusal (entry_at self.old.extents extent) ≡ None
             → IfErr result (λ e. (e ≢ ManagerFault.NoSuchExtent) × (e ≢ ManagerFault.NoReply)) }
-        ensures stopped { self.old.file.stopped ≡ true → (self.new ≡ self.old) × (result ≡ Ok (record { packets = []; notes = [] })) }
+        ensures failed { IsErrOf result ManagerFault.DiskFailed → (D.state self.old.file.disk).failures < (D.state self.new.file.disk).failures }
         ensures few { IfOk result (λ step. AreFew step.packets step.notes) }
-        ensures replays { self.old.file.stopped ≡ false → ManagerIsReplay self.old self.old.file.records }
+        ensures replays { ManagerIsReplay self.old self.old.file.records }
     {
-        if self.file.is_stopped() {
-            return Ok(Step::silent(alloc));
-        }
         match refusal(&self.table, extent.0) {
             Some(fault) => Err(fault),
             None => {
@@ -278,15 +237,17 @@ impl<D: Disk> Manager<D> {
     /// records make of it, but for what a stop drops; once it has stopped, all its records or all but the last.
     pub fn file(&self) -> &RecordFile<D>
         ensures value { result.now ≡ self.now.file }
-        ensures holds { IsMadeOf (ManagerIsReplay self.now) self.now.file.stopped self.now.file.records }
+        ensures holds { HoldsTable (table_of self.now) self.now.file.stopped self.now.file.records }
     {
         &self.file
     }
 
-    /// Its disk, whether it has stopped or not. Its bytes are a file of the records that the manager had.
+    /// Its disk, whether it has stopped or not. Its bytes are a file of the records that the manager had, and these fit: a
+    /// restart finds no damage (21).
     pub fn into_disk(self) -> D
         ensures disk { result ≡ self.file.disk }
         ensures stands { IsFileOf self.file.version self.file.records (D.state result).seen }
+        ensures fits { AreOfManager self.file.records }
     {
         let Manager { table: _, file } = self;
         file.into_disk()

@@ -18,7 +18,7 @@ use std::alloc::Global;
 use wire::{Packet, Step};
 
 /// Adds a record to the manager's file.
-pub(crate) fn write<D: Disk>(
+fn write<D: Disk>(
     alloc: Global,
     file: &mut RecordFile<D>,
     new_record: &ManagerRecord,

@@ -9,4 +9,3 @@ pub mod RecordBytes
 pub mod Manager
 pub mod Replay
 pub mod StreamSystem
-pub mod StoppedActor

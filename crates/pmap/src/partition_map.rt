@@ -1,5 +1,5 @@
 //! The partition map.
-ghost use Rattle.std.specs.Prelude.{◌≡◌, ◌≢◌, ◌<◌, ◌^◌, List, [], Ok, Err, Some, None, false, true, IfOk, IfErr, MatchResult, option_map};
+ghost use Rattle.std.specs.Prelude.{◌≡◌, ◌≢◌, ◌<◌, ◌^◌, List, [], Ok, Err, Some, None, false, true, IfOk, IfErr, IsErrOf, MatchResult, option_map};
 ghost use Rattle.block_types.specs.declared.record.Record.{Record};
 ghost use Rattle.block_types.specs.declared.record.Version.{Version};
 ghost use Rattle.disk.specs.Disk.{IsSteady, LeavesOnly};
@@ -7,12 +7,11 @@ ghost use Rattle.disk.specs.File.{IsFileOf};
 ghost use Rattle.disk.specs.Memory.{memory_state};
 ghost use Rattle.wire.specs.declared.refusal.Refusal.{Refusal};
 ghost use Rattle.model_streams.specs.Bounds.{AreFew};
-ghost use Rattle.model_streams.specs.StoppedActor.{IsMadeOf};
 ghost use Rattle.model_partition.specs.Map.{range_at, range_of_key, union_at};
 ghost use Rattle.model_partition.specs.MapRules.{assign_fault, assign_rule, renew_fault, renew_rule, begin_split_fault, begin_split_rule, complete_split_fault, complete_split_rule, begin_merge_fault, begin_merge_rule, complete_merge_fault, complete_merge_rule, told, map_rule};
 ghost use Rattle.model_partition.specs.Partition.{IsSound, HaveEachKeyOnce};
 ghost use Rattle.model_partition.specs.Replay.{map_fits};
-ghost use Rattle.pmap.specs.MapWithFile.{map_of, MakesMap};
+ghost use Rattle.pmap.specs.MapWithFile.{map_of, MakesMap, HoldsMap};
 ghost use Rattle.pmap.specs.Performs.{MapPerforms, as_rule, fault_of, is_failure};
 
 use crate::caller::{Caller, KnownRange};
@@ -52,14 +51,13 @@ impl<D: Disk + Drop> Drop for PartitionMap<D> {
 /// Its ranges are what its records make of them. Once it has stopped, the last record may be one that its ranges are without:
 /// the one at whose write the disk failed.
 impl<D: Disk> Model for PartitionMap<D> {
-    ghost use Rattle.model_streams.specs.StoppedActor.{IsMadeOf};
-    ghost use Rattle.pmap.specs.MapWithFile.{MapWithFile, held_of, MakesMap};
+    ghost use Rattle.pmap.specs.MapWithFile.{MapWithFile, held_of, HoldsMap};
 
     ghost Value = { MapWithFile D };
 
     ghost view = { λ m. held_of m.table.map m.file };
 
-    ghost invariant = { λ m. IsMadeOf (λ rs. MakesMap rs m.table.map) m.file.stopped m.file.records };
+    ghost invariant = { λ m. HoldsMap m.table.map m.file.stopped m.file.records };
 }
 
 /// A range's number as one, of 64 bits.
@@ -104,6 +102,11 @@ impl<D: Disk> PartitionMap<D> {
         // 21 only where the bytes are no file of records that fit.
         ensures damaged { (v : Version) (rs : List Record) → IsFileOf v rs (D.state disk).seen → map_fits rs ≡ true
             → IfErr result (λ e. e.0 ≢ FileFault.Damaged) }
+
+        // No map comes of records that do not fit, or of bytes that are no file of records.
+        ensures unfit { (v : Version) (rs : List Record) → IsFileOf v rs (D.state disk).seen → (map_fits rs ≡ true → ⊥)
+            → IfOk result (λ m. ⊥) }
+        ensures no_file { ((v : Version) (rs : List Record) → IsFileOf v rs (D.state disk).seen → ⊥) → IfOk result (λ m. ⊥) }
         ensures failed { IfErr result (λ e. e.0 ≡ FileFault.Failed → (D.state disk).failures < (D.state e.1).failures) }
 
         // No other records make the map than those that the bytes are a file of.
@@ -137,7 +140,7 @@ impl<D: Disk> PartitionMap<D> {
 
     /// Assigns a range to a server with a lease up to a moment, under a generation one higher, and tells the server: the rule
     /// of the map, exactly. What is begun at the range is dropped. The end of a lease never goes back, and where no generation
-    /// of 64 bits is left nothing happens. The record is on the disk before the packet is handed out. A stopped map does nothing. 30: there is no such range.
+    /// of 64 bits is left nothing happens. The record is on the disk before the packet is handed out. The map has to run (`is_stopped`). 30: there is no such range.
     /// 31: another server holds it, and its lease has not ended at the moment `now`. 20: the disk failed, and the map is
     /// stopped until it is restarted; its records are the old ones, with the new one or without. 22: no memory. After 22,
     /// 30 and 31 nothing has changed.
@@ -149,23 +152,21 @@ impl<D: Disk> PartitionMap<D> {
         now: u64,
         until: u64,
     ) -> Result<Step, MapFault>
-        ensures refused { self.old.file.stopped ≡ false → (r : Refusal) → assign_fault server now (range_at self.old.ranges range) ≡ Some r
+        requires running { self.old.file.stopped ≡ false }
+        ensures refused { (r : Refusal) → assign_fault server now (range_at self.old.ranges range) ≡ Some r
             → (self.new ≡ self.old) × (result ≡ Err (fault_of r)) }
-        ensures performed { self.old.file.stopped ≡ false → assign_fault server now (range_at self.old.ranges range) ≡ None
+        ensures performed { assign_fault server now (range_at self.old.ranges range) ≡ None
             → MapPerforms D.state self.old self.new (assign_rule (map_of self.old) range server until (range_at self.old.ranges range)) (as_rule result) }
         ensures taken { assign_fault server now (range_at self.old.ranges range) ≡ None
             → IfErr result (λ e. is_failure e ≡ true) }
-        ensures stopped { self.old.file.stopped ≡ true → (self.new ≡ self.old) × (result ≡ Ok (record { packets = []; notes = [] })) }
+        ensures failed { IsErrOf result MapFault.DiskFailed → (D.state self.old.file.disk).failures < (D.state self.new.file.disk).failures }
 
         // A step sends no more than a caller can make room for beforehand.
         ensures few { IfOk result (λ step. AreFew step.packets step.notes) }
 
-        // While the map runs, its ranges are what its records make of them.
-        ensures replays { self.old.file.stopped ≡ false → MakesMap self.old.file.records (map_of self.old) }
+        // Its ranges are what its records make of them.
+        ensures replays { MakesMap self.old.file.records (map_of self.old) }
     {
-        if self.file.is_stopped() {
-            return Ok(Step::silent(alloc));
-        }
         // Read for their ranges: within those a record's bytes are read as they were written.
         let _range = range.0;
         let _server = server.0;
@@ -179,8 +180,8 @@ impl<D: Disk> PartitionMap<D> {
     }
 
     /// Moves the end of the lease of a range to a moment, where that is later, for the server that holds it, and tells the
-    /// server the end: the rule of the map, exactly. The record is on the disk before the packet is handed out. A stopped map
-    /// does nothing. 30: there is no such range, or the server does not hold it. 20: the disk failed, and the map is stopped
+    /// server the end: the rule of the map, exactly. The record is on the disk before the packet is handed out. The map
+    /// has to run. 30: there is no such range, or the server does not hold it. 20: the disk failed, and the map is stopped
     /// until it is restarted; its records are the old ones, with the new one or without. 22: no memory. After 22 and 30
     /// nothing has changed.
     pub fn renew(
@@ -190,19 +191,17 @@ impl<D: Disk> PartitionMap<D> {
         server: ServerNo,
         until: u64,
     ) -> Result<Step, MapFault>
-        ensures refused { self.old.file.stopped ≡ false → (r : Refusal) → renew_fault server (range_at self.old.ranges range) ≡ Some r
+        requires running { self.old.file.stopped ≡ false }
+        ensures refused { (r : Refusal) → renew_fault server (range_at self.old.ranges range) ≡ Some r
             → (self.new ≡ self.old) × (result ≡ Err (fault_of r)) }
-        ensures performed { self.old.file.stopped ≡ false → renew_fault server (range_at self.old.ranges range) ≡ None
+        ensures performed { renew_fault server (range_at self.old.ranges range) ≡ None
             → MapPerforms D.state self.old self.new (renew_rule (map_of self.old) range server until (range_at self.old.ranges range)) (as_rule result) }
         ensures taken { renew_fault server (range_at self.old.ranges range) ≡ None
             → IfErr result (λ e. is_failure e ≡ true) }
-        ensures stopped { self.old.file.stopped ≡ true → (self.new ≡ self.old) × (result ≡ Ok (record { packets = []; notes = [] })) }
+        ensures failed { IsErrOf result MapFault.DiskFailed → (D.state self.old.file.disk).failures < (D.state self.new.file.disk).failures }
         ensures few { IfOk result (λ step. AreFew step.packets step.notes) }
-        ensures replays { self.old.file.stopped ≡ false → MakesMap self.old.file.records (map_of self.old) }
+        ensures replays { MakesMap self.old.file.records (map_of self.old) }
     {
-        if self.file.is_stopped() {
-            return Ok(Step::silent(alloc));
-        }
         // Read for its range: within that a record's bytes are read as they were written.
         let _range = range.0;
         match renew_fault(&self.table, range, server) {
@@ -217,7 +216,7 @@ impl<D: Disk> PartitionMap<D> {
     /// Begins a split of a range at a key, in place of what was begun at it, and tells who called the numbers of the two
     /// ranges that it is to leave: the rule of the map, exactly. Where a split at this key is pending the answer is the same, and
     /// nothing is written; where the next two numbers and the one after them have not all 64 bits nothing happens. The record is
-    /// on the disk before the packet is handed out. A stopped map does nothing. 41: there is no such range, or it has another
+    /// on the disk before the packet is handed out. The map has to run. 41: there is no such range, or it has another
     /// generation. 39: the key has not 1 to 256 bytes, or it is not above the first key of the range and below its end. 20: the
     /// disk failed, and the map is stopped until it is restarted; its records are the old ones, with the new one or without.
     /// 22: no memory. After 22, 39 and 41 nothing has changed.
@@ -228,18 +227,16 @@ impl<D: Disk> PartitionMap<D> {
         known: &KnownRange,
         key: &Bytes,
     ) -> Result<Step, MapFault>
-        ensures refused { self.old.file.stopped ≡ false → (r : Refusal) → begin_split_fault known.now.generation key.now (range_at self.old.ranges known.now.range) ≡ Some r
+        requires running { self.old.file.stopped ≡ false }
+        ensures refused { (r : Refusal) → begin_split_fault known.now.generation key.now (range_at self.old.ranges known.now.range) ≡ Some r
             → (self.new ≡ self.old) × (result ≡ Err (fault_of r)) }
-        ensures performed { self.old.file.stopped ≡ false → begin_split_fault known.now.generation key.now (range_at self.old.ranges known.now.range) ≡ None
+        ensures performed { begin_split_fault known.now.generation key.now (range_at self.old.ranges known.now.range) ≡ None
             → MapPerforms D.state self.old self.new (begin_split_rule (map_of self.old) caller.now.from caller.now.request known.now.range key.now (range_at self.old.ranges known.now.range)) (as_rule result) }
         ensures taken { begin_split_fault known.now.generation key.now (range_at self.old.ranges known.now.range) ≡ None → IfErr result (λ e. is_failure e ≡ true) }
-        ensures stopped { self.old.file.stopped ≡ true → (self.new ≡ self.old) × (result ≡ Ok (record { packets = []; notes = [] })) }
+        ensures failed { IsErrOf result MapFault.DiskFailed → (D.state self.old.file.disk).failures < (D.state self.new.file.disk).failures }
         ensures few { IfOk result (λ step. AreFew step.packets step.notes) }
-        ensures replays { self.old.file.stopped ≡ false → MakesMap self.old.file.records (map_of self.old) }
+        ensures replays { MakesMap self.old.file.records (map_of self.old) }
     {
-        if self.file.is_stopped() {
-            return Ok(Step::silent(alloc));
-        }
         // Read for its range: within that a record's bytes are read as they were written.
         let _range = number_of(known.range);
         match begin_split_fault(&self.table, known, key) {
@@ -260,7 +257,7 @@ impl<D: Disk> PartitionMap<D> {
 
     /// Completes the split that is begun at a range: two ranges stand in its place, with its keys below the key and those from
     /// it on, its generation, and no holder. It shows the split and tells who called: the rule of the map, exactly. The record is
-    /// on the disk before that is handed out. A stopped map does nothing. 41: there is no such range, it has another generation,
+    /// on the disk before that is handed out. The map has to run. 41: there is no such range, it has another generation,
     /// or no split of it is begun. 20: the disk failed, and the map is stopped until it is restarted; its records are the old
     /// ones, with the new one or without. 22: no memory. After 22 and 41 nothing has changed.
     pub fn complete_split(
@@ -269,18 +266,16 @@ impl<D: Disk> PartitionMap<D> {
         caller: &Caller,
         known: &KnownRange,
     ) -> Result<Step, MapFault>
-        ensures refused { self.old.file.stopped ≡ false → (r : Refusal) → complete_split_fault known.now.generation (range_at self.old.ranges known.now.range) ≡ Some r
+        requires running { self.old.file.stopped ≡ false }
+        ensures refused { (r : Refusal) → complete_split_fault known.now.generation (range_at self.old.ranges known.now.range) ≡ Some r
             → (self.new ≡ self.old) × (result ≡ Err (fault_of r)) }
-        ensures performed { self.old.file.stopped ≡ false → complete_split_fault known.now.generation (range_at self.old.ranges known.now.range) ≡ None
+        ensures performed { complete_split_fault known.now.generation (range_at self.old.ranges known.now.range) ≡ None
             → MapPerforms D.state self.old self.new (complete_split_rule (map_of self.old) caller.now.from caller.now.request known.now.range (range_at self.old.ranges known.now.range)) (as_rule result) }
         ensures taken { complete_split_fault known.now.generation (range_at self.old.ranges known.now.range) ≡ None → IfErr result (λ e. is_failure e ≡ true) }
-        ensures stopped { self.old.file.stopped ≡ true → (self.new ≡ self.old) × (result ≡ Ok (record { packets = []; notes = [] })) }
+        ensures failed { IsErrOf result MapFault.DiskFailed → (D.state self.old.file.disk).failures < (D.state self.new.file.disk).failures }
         ensures few { IfOk result (λ step. AreFew step.packets step.notes) }
-        ensures replays { self.old.file.stopped ≡ false → MakesMap self.old.file.records (map_of self.old) }
+        ensures replays { MakesMap self.old.file.records (map_of self.old) }
     {
-        if self.file.is_stopped() {
-            return Ok(Step::silent(alloc));
-        }
         // Read for its range: within that a record's bytes are read as they were written.
         let _range = number_of(known.range);
         match complete_split_fault(&self.table, known) {
@@ -301,7 +296,7 @@ impl<D: Disk> PartitionMap<D> {
     /// Begins a merge of a range with the one behind it, in place of what was begun at either, and tells who called the number
     /// of the range that they are to become: the rule of the map, exactly. Where this merge is pending the answer is the same, and
     /// nothing is written; where the next number and the one after it have not both 64 bits nothing happens. The record is on the
-    /// disk before the packet is handed out. A stopped map does nothing. 41: one of them is not there, or has another generation.
+    /// disk before the packet is handed out. The map has to run. 41: one of them is not there, or has another generation.
     /// 40: the right one does not begin where the left one ends. 30: their holders differ. 20: the disk failed, and the map is
     /// stopped until it is restarted; its records are the old ones, with the new one or without. 22: no memory. After 22, 30, 40
     /// and 41 nothing has changed.
@@ -312,18 +307,16 @@ impl<D: Disk> PartitionMap<D> {
         left: &KnownRange,
         right: &KnownRange,
     ) -> Result<Step, MapFault>
-        ensures refused { self.old.file.stopped ≡ false → (r : Refusal) → begin_merge_fault left.now.generation right.now.generation (range_at self.old.ranges left.now.range) (range_at self.old.ranges right.now.range) ≡ Some r
+        requires running { self.old.file.stopped ≡ false }
+        ensures refused { (r : Refusal) → begin_merge_fault left.now.generation right.now.generation (range_at self.old.ranges left.now.range) (range_at self.old.ranges right.now.range) ≡ Some r
             → (self.new ≡ self.old) × (result ≡ Err (fault_of r)) }
-        ensures performed { self.old.file.stopped ≡ false → begin_merge_fault left.now.generation right.now.generation (range_at self.old.ranges left.now.range) (range_at self.old.ranges right.now.range) ≡ None
+        ensures performed { begin_merge_fault left.now.generation right.now.generation (range_at self.old.ranges left.now.range) (range_at self.old.ranges right.now.range) ≡ None
             → MapPerforms D.state self.old self.new (begin_merge_rule (map_of self.old) caller.now.from caller.now.request left.now.range right.now.range (range_at self.old.ranges left.now.range)) (as_rule result) }
         ensures taken { begin_merge_fault left.now.generation right.now.generation (range_at self.old.ranges left.now.range) (range_at self.old.ranges right.now.range) ≡ None → IfErr result (λ e. is_failure e ≡ true) }
-        ensures stopped { self.old.file.stopped ≡ true → (self.new ≡ self.old) × (result ≡ Ok (record { packets = []; notes = [] })) }
+        ensures failed { IsErrOf result MapFault.DiskFailed → (D.state self.old.file.disk).failures < (D.state self.new.file.disk).failures }
         ensures few { IfOk result (λ step. AreFew step.packets step.notes) }
-        ensures replays { self.old.file.stopped ≡ false → MakesMap self.old.file.records (map_of self.old) }
+        ensures replays { MakesMap self.old.file.records (map_of self.old) }
     {
-        if self.file.is_stopped() {
-            return Ok(Step::silent(alloc));
-        }
         // Read for their ranges: within those a record's bytes are read as they were written.
         let _left = number_of(left.range);
         let _right = number_of(right.range);
@@ -345,7 +338,7 @@ impl<D: Disk> PartitionMap<D> {
 
     /// Completes the merge that is begun of two ranges: one stands in their place, with the keys of both, the greater of their
     /// generations, and no holder. It shows the merge and tells who called: the rule of the map, exactly. The record is on the
-    /// disk before that is handed out. A stopped map does nothing. 41: one of them is not there or has another generation, or
+    /// disk before that is handed out. The map has to run. 41: one of them is not there or has another generation, or
     /// their merge is not begun. 20: the disk failed, and the map is stopped until it is restarted; its records are the old ones,
     /// with the new one or without. 22: no memory. After 22 and 41 nothing has changed.
     pub fn complete_merge(
@@ -355,18 +348,16 @@ impl<D: Disk> PartitionMap<D> {
         left: &KnownRange,
         right: &KnownRange,
     ) -> Result<Step, MapFault>
-        ensures refused { self.old.file.stopped ≡ false → (r : Refusal) → complete_merge_fault left.now.generation right.now.generation (range_at self.old.ranges left.now.range) (range_at self.old.ranges right.now.range) (union_at self.old.ranges left.now.range right.now.range) ≡ Some r
+        requires running { self.old.file.stopped ≡ false }
+        ensures refused { (r : Refusal) → complete_merge_fault left.now.generation right.now.generation (range_at self.old.ranges left.now.range) (range_at self.old.ranges right.now.range) (union_at self.old.ranges left.now.range right.now.range) ≡ Some r
             → (self.new ≡ self.old) × (result ≡ Err (fault_of r)) }
-        ensures performed { self.old.file.stopped ≡ false → complete_merge_fault left.now.generation right.now.generation (range_at self.old.ranges left.now.range) (range_at self.old.ranges right.now.range) (union_at self.old.ranges left.now.range right.now.range) ≡ None
+        ensures performed { complete_merge_fault left.now.generation right.now.generation (range_at self.old.ranges left.now.range) (range_at self.old.ranges right.now.range) (union_at self.old.ranges left.now.range right.now.range) ≡ None
             → MapPerforms D.state self.old self.new (complete_merge_rule (map_of self.old) caller.now.from caller.now.request left.now.range right.now.range (union_at self.old.ranges left.now.range right.now.range)) (as_rule result) }
         ensures taken { complete_merge_fault left.now.generation right.now.generation (range_at self.old.ranges left.now.range) (range_at self.old.ranges right.now.range) (union_at self.old.ranges left.now.range right.now.range) ≡ None → IfErr result (λ e. is_failure e ≡ true) }
-        ensures stopped { self.old.file.stopped ≡ true → (self.new ≡ self.old) × (result ≡ Ok (record { packets = []; notes = [] })) }
+        ensures failed { IsErrOf result MapFault.DiskFailed → (D.state self.old.file.disk).failures < (D.state self.new.file.disk).failures }
         ensures few { IfOk result (λ step. AreFew step.packets step.notes) }
-        ensures replays { self.old.file.stopped ≡ false → MakesMap self.old.file.records (map_of self.old) }
+        ensures replays { MakesMap self.old.file.records (map_of self.old) }
     {
-        if self.file.is_stopped() {
-            return Ok(Step::silent(alloc));
-        }
         // Read for their ranges: within those a record's bytes are read as they were written.
         let _left = number_of(left.range);
         let _right = number_of(right.range);
@@ -494,6 +485,7 @@ impl<D: Disk> PartitionMap<D> {
     pub fn handle(&mut self, alloc: Global, packet: &Packet) -> Result<Step, DiskFault>
         ensures performed { self.old.file.stopped ≡ false → MapPerforms D.state self.old self.new (map_rule (map_of self.old) packet.now packet.now.body) result }
         ensures stopped { self.old.file.stopped ≡ true → (self.new ≡ self.old) × (result ≡ Ok (record { packets = []; notes = [] })) }
+        ensures failed { IsErrOf result DiskFault.Failed → (D.state self.old.file.disk).failures < (D.state self.new.file.disk).failures }
         ensures few { IfOk result (λ step. AreFew step.packets step.notes) }
         ensures replays { self.old.file.stopped ≡ false → MakesMap self.old.file.records (map_of self.old) }
     {
@@ -535,15 +527,17 @@ impl<D: Disk> PartitionMap<D> {
     /// records make of them; once it has stopped, all its records or all but the last.
     pub fn file(&self) -> &RecordFile<D>
         ensures value { result.now ≡ self.now.file }
-        ensures holds { IsMadeOf (λ rs. MakesMap rs (map_of self.now)) self.now.file.stopped self.now.file.records }
+        ensures holds { HoldsMap (map_of self.now) self.now.file.stopped self.now.file.records }
     {
         &self.file
     }
 
-    /// Its disk, whether it has stopped or not. Its bytes are a file of the records that the map had.
+    /// Its disk, whether it has stopped or not. Its bytes are a file of the records that the map had, and these fit: a restart
+    /// finds no damage (21).
     pub fn into_disk(self) -> D
         ensures disk { result ≡ self.file.disk }
         ensures stands { IsFileOf self.file.version self.file.records (D.state result).seen }
+        ensures fits { map_fits self.file.records ≡ true }
     {
         let PartitionMap { table: _, file } = self;
         file.into_disk()

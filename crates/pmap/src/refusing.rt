@@ -1,5 +1,5 @@
 //! Why the map does not do what a call asks, and the answer of a call.
-ghost use Rattle.std.specs.Prelude.{◌≡◌, true, IfErr, option_map};
+ghost use Rattle.std.specs.Prelude.{◌≡◌, true, false, IfErr, IfSome, option_map};
 ghost use Rattle.model_partition.specs.Map.{range_at, union_at};
 ghost use Rattle.model_partition.specs.MapRules.{assign_fault, begin_merge_fault, begin_split_fault, complete_merge_fault, complete_split_fault, renew_fault};
 ghost use Rattle.pmap.specs.Performs.{AnswersCall, as_rule, fault_of, is_failure};
@@ -20,7 +20,8 @@ pub(crate) fn assign_fault(
     server: ServerNo,
     now: u64,
 ) -> Option<MapFault>
-    ensures { result ≡ option_map fault_of (assign_fault server now (range_at table.now.map.ranges range)) }
+    ensures refusal { IfSome result (λ fault. is_failure fault ≡ false) }
+    ensures value { result ≡ option_map fault_of (assign_fault server now (range_at table.now.map.ranges range)) }
 {
     let Some(entry) = table.entry(range) else {
         return Some(MapFault::NotOwner);
@@ -33,7 +34,8 @@ pub(crate) fn assign_fault(
 
 /// Why the lease of a range is not renewed for a server.
 pub(crate) fn renew_fault(table: &RangeTable, range: RangeId, server: ServerNo) -> Option<MapFault>
-    ensures { result ≡ option_map fault_of (renew_fault server (range_at table.now.map.ranges range)) }
+    ensures refusal { IfSome result (λ fault. is_failure fault ≡ false) }
+    ensures value { result ≡ option_map fault_of (renew_fault server (range_at table.now.map.ranges range)) }
 {
     let Some(entry) = table.entry(range) else {
         return Some(MapFault::NotOwner);
@@ -50,7 +52,8 @@ pub(crate) fn begin_split_fault(
     known: &KnownRange,
     key: &Bytes,
 ) -> Option<MapFault>
-    ensures { result ≡ option_map fault_of (begin_split_fault known.now.generation key.now (range_at table.now.map.ranges known.now.range)) }
+    ensures refusal { IfSome result (λ fault. is_failure fault ≡ false) }
+    ensures value { result ≡ option_map fault_of (begin_split_fault known.now.generation key.now (range_at table.now.map.ranges known.now.range)) }
 {
     match table.entry(known.range) {
         Some(entry) if entry.generation == known.generation => {
@@ -66,7 +69,8 @@ pub(crate) fn begin_split_fault(
 
 /// Why a split is not completed.
 pub(crate) fn complete_split_fault(table: &RangeTable, known: &KnownRange) -> Option<MapFault>
-    ensures { result ≡ option_map fault_of (complete_split_fault known.now.generation (range_at table.now.map.ranges known.now.range)) }
+    ensures refusal { IfSome result (λ fault. is_failure fault ≡ false) }
+    ensures value { result ≡ option_map fault_of (complete_split_fault known.now.generation (range_at table.now.map.ranges known.now.range)) }
 {
     match table.entry(known.range) {
         Some(entry) if entry.generation == known.generation && is_split(&entry.pending) => None,
@@ -80,7 +84,8 @@ pub(crate) fn begin_merge_fault(
     left: &KnownRange,
     right: &KnownRange,
 ) -> Option<MapFault>
-    ensures { result ≡ option_map fault_of (begin_merge_fault left.now.generation right.now.generation (range_at table.now.map.ranges left.now.range) (range_at table.now.map.ranges right.now.range)) }
+    ensures refusal { IfSome result (λ fault. is_failure fault ≡ false) }
+    ensures value { result ≡ option_map fault_of (begin_merge_fault left.now.generation right.now.generation (range_at table.now.map.ranges left.now.range) (range_at table.now.map.ranges right.now.range)) }
 {
     let Some(below) = table.entry(left.range) else {
         return Some(MapFault::GenerationChanged);
@@ -106,7 +111,8 @@ pub(crate) fn complete_merge_fault(
     left: &KnownRange,
     right: &KnownRange,
 ) -> Option<MapFault>
-    ensures { result ≡ option_map fault_of (complete_merge_fault left.now.generation right.now.generation (range_at table.now.map.ranges left.now.range) (range_at table.now.map.ranges right.now.range) (union_at table.now.map.ranges left.now.range right.now.range)) }
+    ensures refusal { IfSome result (λ fault. is_failure fault ≡ false) }
+    ensures value { result ≡ option_map fault_of (complete_merge_fault left.now.generation right.now.generation (range_at table.now.map.ranges left.now.range) (range_at table.now.map.ranges right.now.range) (union_at table.now.map.ranges left.now.range right.now.range)) }
 {
     let Some(below) = table.entry(left.range) else {
         return Some(MapFault::GenerationChanged);

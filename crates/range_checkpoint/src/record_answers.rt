@@ -12,6 +12,7 @@ ghost use Rattle.range_checkpoint.specs.Records as records;
 
 use crate::append_answers::{appended, told};
 use crate::trim::trims;
+use block_types::BlockFault;
 use checkpoint::{Index, InstalledIndex, InstalledIndexes};
 use memtable::Place;
 use metadata::{MetaItem, MetaRecord, Metadata, copied_keys};
@@ -55,8 +56,11 @@ fn recorded_at(
             next: job.next,
         },
     };
-    if after.fold(alloc, record).is_err() {
-        return Err(AllocError);
+    match after.fold(alloc, record) {
+        Ok(_) => {}
+        Err(BlockFault::Memory) => return Err(AllocError),
+        // it has the next number, and one is left after it
+        Err(BlockFault::Damaged) => unreachable!(),
     }
     let index = job.pages.index();
     Ok(Recorded {

@@ -3,15 +3,13 @@ ghost use Rattle.std.specs.Prelude.{◌≡◌, IfOk, IsErrOf, List, OnOk, ℕ};
 ghost use Rattle.std.specs.Io.KnownBytes.{Appends, Keeps};
 ghost use Rattle.block_types.specs.declared.record.Record.{Record};
 ghost use Rattle.block_types.specs.declared.record.Version.{Version};
-ghost use Rattle.disk.specs.Disk.{IsSteady};
 ghost use Rattle.disk.specs.File.{IsFileOf};
-ghost use Rattle.disk.specs.Memory.{memory_state};
 ghost use Rattle.record_dump.specs.Dump.{IsDumpOf};
 
 use crate::dumping::{DumpFault, dump};
 use block_types::BlockFault;
-use disk::{Disk, DiskFault, FileFault, MemDisk, RecordFile};
-use std::alloc::{AllocError, Global};
+use disk::{FileFault, MemDisk, RecordFile};
+use std::alloc::Global;
 use std::io::{self, Write};
 use thiserror::Error;
 
@@ -57,27 +55,13 @@ impl From<DumpFault> for BytesFault {
     }
 }
 
-/// A disk in memory with these bytes, which fails in no call. An error is out of memory (22).
-fn disk_of(alloc: Global, bytes: Vec<u8>) -> Result<MemDisk, AllocError>
-    ensures seen { IfOk result (λ disk. (memory_state disk).seen ≡ bytes.items) }
-    ensures steady { IfOk result (λ disk. IsSteady (memory_state disk)) }
-{
-    let mut disk = MemDisk::new(alloc);
-    match disk.write_at(0, bytes.as_slice()) {
-        Ok(()) => Ok(disk),
-        Err(DiskFault::Memory) => Err(AllocError),
-        Err(DiskFault::Failed) => unreachable!(),
-    }
-}
-
 /// The record file that these bytes are, over a disk in memory. An error is bytes that are none (21), or out of memory (22).
 fn file_of(alloc: Global, bytes: Vec<u8>) -> Result<RecordFile<MemDisk>, BlockFault>
     ensures ok { IfOk result (λ file. IsFileOf file.version file.records bytes.items) }
     ensures damaged { IsErrOf result BlockFault.Damaged
         → (v : Version) (rs : List Record) → IsFileOf v rs bytes.items → ⊥ }
 {
-    let disk = disk_of(alloc, bytes)?;
-    match RecordFile::open(alloc, disk) {
+    match RecordFile::open(alloc, MemDisk::from_bytes(alloc, bytes)) {
         Ok(file) => Ok(file),
         Err((FileFault::Damaged, _disk)) => Err(BlockFault::Damaged),
         Err((FileFault::Memory, _disk)) => Err(BlockFault::Memory),

@@ -6,7 +6,7 @@ mod of_the_manager;
 mod of_the_map;
 
 use crate::written_disks::{disk_of, disk_with};
-use disk::{Disk, DiskFault, FileFault, MemDisk};
+use disk::{Disk, DiskFault, FileFault, MemDisk, files_have_letters};
 use enode::{Node, NodeFault};
 use manager::Manager;
 use pmap::PartitionMap;
@@ -104,6 +104,7 @@ fn is_told_apart(alloc: Global, who: Who, fit: &[&[u8]], unfit: &[&[u8]]) -> boo
 
 #[test]
 fn no_actor_starts_from_other_bytes(rt: HostRuntime) {
+    files_have_letters();
     for bytes in NO_FILES {
         for who in ALL {
             let disk = disk_with(rt.alloc(), bytes);

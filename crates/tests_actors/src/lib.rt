@@ -13,6 +13,8 @@ mod cases;
 #[cfg(test)]
 mod damage;
 #[cfg(test)]
+mod full_disks;
+#[cfg(test)]
 mod managers;
 #[cfg(test)]
 mod map_splits;

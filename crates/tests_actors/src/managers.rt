@@ -1,5 +1,6 @@
 //! Cases of the stream manager.
 mod asking;
+mod failing_disks;
 mod modifying;
 mod ranges;
 mod sealing;
@@ -105,8 +106,11 @@ fn packet_of(alloc: Global, from: Sender, ask: Ask) -> Packet {
     }
 }
 
-/// Why a decision is refused, if it is.
+/// Why a decision is refused, if it is. One that has stopped is not asked.
 fn undecided(alloc: Global, manager: &mut Manager<MemDisk>, extent: u64) -> Option<ManagerFault> {
+    if manager.is_stopped() {
+        return None;
+    }
     match manager.decide(alloc, ExtentId(extent)) {
         Ok(_step) => None,
         Err(fault) => Some(fault),
@@ -115,6 +119,9 @@ fn undecided(alloc: Global, manager: &mut Manager<MemDisk>, extent: u64) -> Opti
 
 /// Whether a decision is taken, and tells who asked this length.
 fn decides_at(alloc: Global, manager: &mut Manager<MemDisk>, length: u32) -> bool {
+    if manager.is_stopped() {
+        return false;
+    }
     match manager.decide(alloc, ExtentId(1)) {
         Ok(step) => counts(&step) == (7, 1) && is_answer(&step, Answer::Tells(length)),
         Err(_fault) => false,

@@ -199,6 +199,9 @@ fn completes_merge(
 }
 
 fn assigns(alloc: Global, map: &mut Held, range: u64, server: u8, until: u64) -> bool {
+    if map.is_stopped() {
+        return false;
+    }
     match map.assign(alloc, RangeId(range), ServerNo(server), 0, until) {
         Ok(step) => step.packets.items.len() == 1 && step.notes.items.is_empty(),
         Err(_fault) => false,
@@ -232,6 +235,9 @@ fn completes_split(alloc: Global, map: &mut Held, known: (u64, u64), heard: Hear
 
 /// Whether a call fails at the disk, and the map has then stopped.
 fn fails(alloc: Global, map: &mut Held) -> bool {
+    if map.is_stopped() {
+        return false;
+    }
     let caller = Caller {
         from: ActorId::User(7),
         request: REQUEST,

@@ -1,4 +1,6 @@
 //! Cases of the partition map, which has one range.
+mod failing_disks;
+
 use crate::cases::{Actor, holds};
 use crate::record_disks::disk_of;
 use bytes::Bytes;
@@ -34,7 +36,7 @@ pub enum Event {
     /// Its disk is told to stop in the third call of the next record, and to keep that call's bytes or not.
     IsToldToStop(bool),
     StopsNow,
-    /// It has stopped, its disk is told to stop at no call, and an assignment sends and shows nothing.
+    /// It has stopped, its disk is told to stop at no call, and nothing comes of a question.
     HasStopped,
     /// A map starts from its disk in its place.
     Restarts,
@@ -88,6 +90,9 @@ fn assign(
     now: u64,
     until: u64,
 ) -> Result<Told, MapFault> {
+    if map.is_stopped() {
+        return Err(MapFault::DiskFailed);
+    }
     match map.assign(alloc, RangeId(1), ServerNo(server), now, until) {
         Ok(step) => Ok(told(&step)),
         Err(fault) => Err(fault),
@@ -95,6 +100,9 @@ fn assign(
 }
 
 fn renew(alloc: Global, map: &mut Held, server: u8, until: u64) -> Result<Told, MapFault> {
+    if map.is_stopped() {
+        return Err(MapFault::DiskFailed);
+    }
     match map.renew(alloc, RangeId(1), ServerNo(server), until) {
         Ok(step) => Ok(told(&step)),
         Err(fault) => Err(fault),
@@ -102,7 +110,13 @@ fn renew(alloc: Global, map: &mut Held, server: u8, until: u64) -> Result<Told, 
 }
 
 fn knows_no_other(alloc: Global, map: &mut Held) -> bool {
+    if map.is_stopped() {
+        return false;
+    }
     let assigned = map.assign(alloc, RangeId(2), ServerNo(2), 0, 50).err();
+    if map.is_stopped() {
+        return false;
+    }
     let renewed = map.renew(alloc, RangeId(2), ServerNo(2), 50).err();
     assigned == Some(MapFault::NotOwner) && renewed == Some(MapFault::NotOwner)
 }
@@ -194,7 +208,9 @@ fn has_stopped(alloc: Global, map: &mut Held) -> bool {
     if !map.is_stopped() || map.file().told().is_some() {
         return false;
     }
-    match map.assign(alloc, RangeId(1), ServerNo(2), 0, 50) {
+    let key = Bytes::from_static(b"k");
+    let request = REQUEST;
+    match ask(alloc, map, MapBody::Route { key, request }) {
         Ok(step) => is_silent(&step),
         Err(_fault) => false,
     }
@@ -335,7 +351,6 @@ const CASES: &[(&str, &[&[Event]])] = &[
             ASSIGNED,
             Event::StopsNow,
             Event::HasStopped,
-            Event::Renews(2, 80, Ok(None)),
             Event::Tells(None),
             Event::Restarts,
             Event::Has(1, Some(2), 50),

@@ -2,6 +2,7 @@
 mod appending;
 mod asking;
 mod checking;
+mod failing_disks;
 mod sealing;
 mod strangers;
 
@@ -37,6 +38,9 @@ pub enum Event {
 /// What a case shows, the number of its node, and its parts.
 type Case = (&'static str, u8, &'static [&'static [Event]]);
 
+/// The body of the record of a replica of extent 1, under fence 0.
+pub const MADE: &[u8] = b"\x01\0\0\0\0\0\0\0\x01\0\0\0\0\0\0\0\0\0\0\x10\0\x01\x02\x03";
+
 /// A replica of extent 1 with no groups.
 const MAKES: &[Event] = &[Event::Takes(Sender::Manager, Ask::Make(0, 4096), Answer::Taken)];
 
@@ -59,6 +63,18 @@ fn formatted(alloc: Global) -> Option<RecordFile<MemDisk>> {
         Ok(file) => Some(file),
         Err((_fault, _disk)) => None,
     }
+}
+
+/// An append of "abc" to extent 1 of node 1.
+pub fn append_of(alloc: Global) -> Option<Packet> {
+    let Ok(body) = body_of(alloc, Ask::Append(1, 9, &["abc"])) else {
+        return None;
+    };
+    Some(Packet {
+        from: actor_of(Sender::User),
+        to: ActorId::Node(1),
+        body,
+    })
 }
 
 fn handled(

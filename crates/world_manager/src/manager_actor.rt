@@ -9,7 +9,7 @@ ghost use Rattle.world_steps.specs.ActorStep.{IsFew, nothing};
 ghost use Rattle.world_manager.specs.Seen.{ManagerSimulates, decision_refusal, new_manager, seen_of};
 ghost use Rattle.world_stops.specs.LastRecord.{shown_if};
 
-use disk::{DiskFault, MemDisk};
+use disk::{DiskFault, FileFault, MemDisk};
 use manager::{Manager, ManagerFault};
 use std::alloc::{AllocError, Global};
 use std::marker::Model;
@@ -136,7 +136,8 @@ fn restart(manager: &mut Manager<MemDisk>, alloc: Global) -> Result<(), AllocErr
             *manager = started;
             Ok(())
         }
-        Err((_fault, _disk)) => Err(AllocError),
+        Err((FileFault::Memory, _disk)) => Err(AllocError),
+        Err(_) => unreachable!(),
     }
 }
 
@@ -148,7 +149,8 @@ fn on_new_disk(alloc: Global, nodes: u8, target: u32) -> Result<Manager<MemDisk>
 {
     match Manager::create(alloc, nodes, target, MemDisk::new(alloc)) {
         Ok(manager) => Ok(manager),
-        Err((_fault, _disk)) => Err(AllocError),
+        Err((DiskFault::Memory, _disk)) => Err(AllocError),
+        Err(_) => unreachable!(),
     }
 }
 

@@ -8,7 +8,7 @@ ghost use Rattle.world_map.specs.Seen.{MapSimulates, assign_refusal, moment_show
 ghost use Rattle.world_steps.specs.ActorStep.{IsFew, packets_alone};
 ghost use Rattle.world_stops.specs.LastRecord.{shown_if};
 
-use disk::{DiskFault, MemDisk, RecordFile};
+use disk::{DiskFault, FileFault, MemDisk, RecordFile};
 use pmap::{MapFault, PartitionMap};
 use std::alloc::{AllocError, Global};
 use std::marker::Model;
@@ -90,11 +90,13 @@ impl MapActor {
     {
         let file = match RecordFile::format(MemDisk::new(alloc)) {
             Ok(file) => file,
-            Err((_fault, _disk)) => return Err(AllocError),
+            Err((DiskFault::Memory, _disk)) => return Err(AllocError),
+            Err(_) => unreachable!(),
         };
         match PartitionMap::restart(alloc, file.into_disk()) {
             Ok(map) => Ok(MapActor { map, moment: 0 }),
-            Err((_fault, _disk)) => Err(AllocError),
+            Err((FileFault::Memory, _disk)) => Err(AllocError),
+            Err(_) => unreachable!(),
         }
     }
 
@@ -203,7 +205,8 @@ impl MapActor {
                 self.map = started;
                 Ok(())
             }
-            Err((_fault, _disk)) => Err(AllocError),
+            Err((FileFault::Memory, _disk)) => Err(AllocError),
+            Err(_) => unreachable!(),
         }
     }
 

@@ -5,7 +5,7 @@ ghost use Rattle.model_streams.specs.StreamSystem.{StreamSystem, is_present, nod
 ghost use Rattle.world_steps.specs.ActorStep.{IsFew, nothing};
 ghost use Rattle.world_nodes.specs.Seen.{NodeMirrors, NodeSimulates, NodeSteps, if_running, new_node, seen_of};
 
-use disk::{MemDisk, RecordFile};
+use disk::{DiskFault, MemDisk, RecordFile};
 use enode::{Node, NodeFault};
 use std::alloc::{AllocError, Global};
 use std::marker::Model;
@@ -38,11 +38,13 @@ fn on_new_disk(alloc: Global, number: u8) -> Result<Node<MemDisk>, AllocError>
 {
     let file = match RecordFile::format(MemDisk::new(alloc)) {
         Ok(file) => file,
-        Err((_fault, _disk)) => return Err(AllocError),
+        Err((DiskFault::Memory, _disk)) => return Err(AllocError),
+        Err(_) => unreachable!(),
     };
     match Node::restart(alloc, number, file.into_disk()) {
         Ok(node) => Ok(node),
-        Err((_fault, _disk)) => Err(AllocError),
+        Err((NodeFault::Memory, _disk)) => Err(AllocError),
+        Err(_) => unreachable!(),
     }
 }
 
@@ -95,7 +97,8 @@ fn restart(node: &mut Node<MemDisk>, alloc: Global) -> Result<(), AllocError>
             *node = started;
             Ok(())
         }
-        Err((_fault, _disk)) => Err(AllocError),
+        Err((NodeFault::Memory, _disk)) => Err(AllocError),
+        Err(_) => unreachable!(),
     }
 }
 

@@ -4,4 +4,6 @@ use Rattle.enode.proofs.Recovering.{restart_replays}
 use Rattle.enode.proofs.node.recovered.Goals as goal
 
 pub invariant_of-result : goal.invariant_of-result
-invariant_of-result g c = inl (restart_replays _ _ _ (subst (IsRestart c.args.number c.in-Ok.replicas.entries) c.requires c.in-Ok.ensures.ok))
+invariant_of-result g c =
+    let all = restart_replays _ _ _ (subst (IsRestart c.args.number c.in-Ok.replicas.entries) c.requires c.in-Ok.ensures.ok) in
+    record { fit = all.fits; made = inl all }

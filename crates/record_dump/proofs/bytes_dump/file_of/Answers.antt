@@ -5,4 +5,4 @@ use Rattle.record_dump.proofs.bytes_dump.file_of.Goals as goal
 pub returns-in-Err-Damaged-default-clause-damaged : goal.returns-in-Err-Damaged-default-clause-damaged
 returns-in-Err-Damaged-default-clause-damaged c =
     λ told v rs is. c.in-Err-Damaged-default.ensures.only v rs
-    (subst (λ (file : List ℕ). IsFileOf v rs file) (sym c.in_ok-disk.ensures.seen) is) c.in-Err-Damaged-default.field-0-0-is
+    (subst (λ (file : List ℕ). IsFileOf v rs file) (sym c.from_bytes.ensures.seen) is) c.in-Err-Damaged-default.field-0-0-is

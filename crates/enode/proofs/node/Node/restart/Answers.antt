@@ -19,3 +19,9 @@ returns-in-Ok-clause-any_moment g c = kept_moment g.D.Disk.state _ _ _ c.recover
 
 pub returns-in-Err-clause-any_moment : goal.returns-in-Err-clause-any_moment
 returns-in-Err-clause-any_moment g c = search rules
+
+pub returns-in-Ok-clause-unfit : goal.returns-in-Ok-clause-unfit
+returns-in-Ok-clause-unfit g c = λ v rs is unfit. ok_more c.recovered.result (λ x made. unfit (ap (fit c.args.number) (sym (c.in-Ok.ensures.only v rs is).1) ∙ made.fits)) c.recovered.ensures.replays
+
+pub returns-in-Ok-clause-no_file : goal.returns-in-Ok-clause-no_file
+returns-in-Ok-clause-no_file g c = λ none. absurd (c.in-Ok.ensures.no_file none)

@@ -1,7 +1,9 @@
-use Rattle.std.proofs.Common.{ap, ◌∙◌, sym}
+use Rattle.std.proofs.Common.{ap, ◌∙◌, sym, subst}
 use Rattle.model_streams.specs.Replay.{catalog_fits}
 use Rattle.disk.specs.Filed.{Filed}
 use Rattle.disk.proofs.Outcomes.{ok_more, kept_moment}
+use Rattle.manager.specs.Manager.{AreOfManager}
+use Rattle.manager.proofs.ReplaysRecords.{of_replay}
 use Rattle.manager.proofs.manager.Manager.restart.Goals as goal
 
 pub returns-in-Ok-clause-damaged : goal.returns-in-Ok-clause-damaged
@@ -17,3 +19,9 @@ returns-in-Ok-clause-only g c = λ v rs is. ok_more c.recovered.result (λ x sam
 
 pub returns-in-Ok-clause-any_moment : goal.returns-in-Ok-clause-any_moment
 returns-in-Ok-clause-any_moment g c = kept_moment g.D.Disk.state _ _ _ c.recovered.result (λ x. x.file) c.in-Ok.ensures.any_moment c.recovered.ensures.file c.recovered.ensures.disk
+
+pub returns-in-Ok-clause-unfit : goal.returns-in-Ok-clause-unfit
+returns-in-Ok-clause-unfit g c = λ v rs is unfit. ok_more c.recovered.result (λ x made. unfit (subst AreOfManager (c.in-Ok.ensures.only v rs is).1 (of_replay made))) c.recovered.ensures.replays
+
+pub returns-in-Ok-clause-no_file : goal.returns-in-Ok-clause-no_file
+returns-in-Ok-clause-no_file g c = λ none. absurd (c.in-Ok.ensures.no_file none)

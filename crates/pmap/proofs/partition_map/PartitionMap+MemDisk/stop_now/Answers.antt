@@ -1,10 +1,10 @@
 use Rattle.std.proofs.Common.{rules, ap, ◌∙◌}
 use Rattle.disk.specs.Filed.{Filed}
-use Rattle.pmap.proofs.ReplaysRecords.{still_made}
+use Rattle.disk.proofs.Made.{still_made}
 use Rattle.pmap.proofs.partition_map.PartitionMap+MemDisk.stop_now.Goals as goal
 
 pub invariant_of-self : goal.invariant_of-self
-invariant_of-self c = still_made _ _ _ _ _ c.self.invariant (λ up. ap (λ (f : Filed _). f.stopped) c.halt.ensures) (ap (λ (f : Filed _). f.records) c.halt.ensures ∙ c.cancel_stop.ensures.same.2)
+invariant_of-self c = still_made _ _ _ _ _ _ c.self.invariant (λ up. ap (λ (f : Filed _). f.stopped) c.halt.ensures) (ap (λ (f : Filed _). f.records) c.halt.ensures ∙ c.cancel_stop.ensures.same.2)
 
 pub returns-clause-stopped : goal.returns-clause-stopped
 returns-clause-stopped c = search rules

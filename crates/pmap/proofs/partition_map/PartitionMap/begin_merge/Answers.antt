@@ -1,33 +1,40 @@
-use Rattle.std.proofs.Common.{◌<◌, ◌^◌, Result, sym, ◌∙◌, subst}
+use Rattle.std.proofs.Common.{◌<◌, ◌^◌, Result, ap, sym, ◌∙◌, subst}
 use Rattle.disk.specs.declared.device.DiskFault.{DiskFault}
 use Rattle.wire.specs.declared.packet.Step.{Step}
 use Rattle.model_partition.specs.Map.{range_at}
 use Rattle.model_partition.specs.MapRules.{begin_merge_rule}
 use Rattle.model_partition.proofs.Spelling.{begin_merge_again}
-use Rattle.pmap.specs.MapWithFile.{held_of, MakesMap}
-use Rattle.pmap.specs.Performs.{MapPerforms, fault_of}
-use Rattle.pmap.proofs.ReplaysRecords.{running, performed, stays}
+use Rattle.pmap.specs.MapWithFile.{MapWithFile, held_of, MakesMap}
+use Rattle.pmap.specs.Performs.{MapPerforms, as_rule, fault_of}
+use Rattle.disk.proofs.Made.{running}
+use Rattle.disk.proofs.Steps.{records_failed}
+use Rattle.pmap.proofs.ReplaysRecords.{performed, stays}
 use Rattle.pmap.proofs.RulesStand.{begin_merge_stands, none_there}
 use Rattle.pmap.proofs.partition_map.PartitionMap.begin_merge.Goals as goal
 
 pub invariant_of-self : goal.invariant_of-self
 invariant_of-self g c =
     let m = c.self.inside.table.map in
-    let made : MakesMap c.self.inside.file.records m = running (λ rs. MakesMap rs m) _ _ c.self.invariant (sym c.is_stopped.ensures ∙ c.if-is_stopped.false) in
+    let made : MakesMap c.self.inside.file.records m = running (λ rs. MakesMap rs m) _ _ _ c.self.invariant (ap (λ (s : MapWithFile _). s.file.stopped) c.self.view_is ∙ c.requires.running) in
     let wide_left : c.args.left.now.range < 2 ^ 64 = c.number_of-left.ensures.wide in
     let wide_right : c.args.right.now.range < 2 ^ 64 = c.number_of-right.ensures.wide in
     stays g.D.Disk.state m c.begin_merge_on-done.new.table.map _ _ _ c.begin_merge_on-done.result c.begin_merge_on-done.ensures made
-    (begin_merge_stands c.self.inside.file.records m c.args.caller.now.from c.args.caller.now.request c.args.left.now.range c.args.right.now.range c.args.left.now.generation c.args.right.now.generation made (begin_merge_again c.args.left.now.range c.args.right.now.range wide_left wide_right) (none_there fault_of _ (sym c.begin_merge_fault.ensures ∙ c.in-None.is)))
+    (begin_merge_stands c.self.inside.file.records m c.args.caller.now.from c.args.caller.now.request c.args.left.now.range c.args.right.now.range c.args.left.now.generation c.args.right.now.generation made (begin_merge_again c.args.left.now.range c.args.right.now.range wide_left wide_right) (none_there fault_of _ (sym c.begin_merge_fault.ensures.value ∙ c.in-None.is)))
 
 pub returns-in-None-clause-performed : goal.returns-in-None-clause-performed
-returns-in-None-clause-performed g c = rw (← c.self.view_is) (λ up none.
+returns-in-None-clause-performed g c =
+    let up = ap (λ (s : MapWithFile _). s.file.stopped) c.self.view_is ∙ c.requires.running in
+    rw (← c.self.view_is) (λ none.
     let m = c.self.inside.table.map in
     let was = held_of m c.self.inside.file in
     let is = held_of c.begin_merge_on-done.new.table.map c.begin_merge_on-done.new.file in
-    let made : MakesMap c.self.inside.file.records m = running (λ rs. MakesMap rs m) _ _ c.self.invariant up in
+    let made : MakesMap c.self.inside.file.records m = running (λ rs. MakesMap rs m) _ _ _ c.self.invariant up in
     let wide_left : c.args.left.now.range < 2 ^ 64 = c.number_of-left.ensures.wide in
     let wide_right : c.args.right.now.range < 2 ^ 64 = c.number_of-right.ensures.wide in
     let rule = begin_merge_rule m c.args.caller.now.from c.args.caller.now.request c.args.left.now.range c.args.right.now.range (range_at m.ranges c.args.left.now.range) in
     subst (λ (w : Result Step DiskFault). MapPerforms g.D.Disk.state was is rule w) (sym c.answer.ensures.rule)
     (performed g.D.Disk.state m c.begin_merge_on-done.new.table.map _ _ rule c.begin_merge_on-done.result c.begin_merge_on-done.ensures
-    (begin_merge_stands c.self.inside.file.records m c.args.caller.now.from c.args.caller.now.request c.args.left.now.range c.args.right.now.range c.args.left.now.generation c.args.right.now.generation made (begin_merge_again c.args.left.now.range c.args.right.now.range wide_left wide_right) (none_there fault_of _ (sym c.begin_merge_fault.ensures ∙ c.in-None.is)))))
+    (begin_merge_stands c.self.inside.file.records m c.args.caller.now.from c.args.caller.now.request c.args.left.now.range c.args.right.now.range c.args.left.now.generation c.args.right.now.generation made (begin_merge_again c.args.left.now.range c.args.right.now.range wide_left wide_right) (none_there fault_of _ (sym c.begin_merge_fault.ensures.value ∙ c.in-None.is)))))
+
+pub returns-in-None-clause-failed : goal.returns-in-None-clause-failed
+returns-in-None-clause-failed g c = rw (← c.self.view_is) (λ bad. records_failed g.D.Disk.state _ _ _ c.begin_merge_on-done.result c.begin_merge_on-done.ensures.file (sym c.answer.ensures.rule ∙ ap as_rule bad))

@@ -1,4 +1,4 @@
-use Rattle.std.proofs.Common.{ap, ◌∙◌}
+use Rattle.std.proofs.Common.{ap, sym, ◌∙◌}
 use Rattle.model_partition.specs.Replay.{map_fits}
 use Rattle.disk.specs.Filed.{Filed}
 use Rattle.disk.proofs.Outcomes.{ok_more, kept_moment}
@@ -15,3 +15,9 @@ returns-in-Ok-clause-only g c = λ v rs is. ok_more c.recovered.result (λ x sam
 
 pub returns-in-Ok-clause-any_moment : goal.returns-in-Ok-clause-any_moment
 returns-in-Ok-clause-any_moment g c = kept_moment g.D.Disk.state _ _ _ c.recovered.result (λ x. x.file) c.in-Ok.ensures.any_moment c.recovered.ensures.file c.recovered.ensures.disk
+
+pub returns-in-Ok-clause-unfit : goal.returns-in-Ok-clause-unfit
+returns-in-Ok-clause-unfit g c = λ v rs is unfit. ok_more c.recovered.result (λ x made. unfit (ap map_fits (sym (c.in-Ok.ensures.only v rs is).1) ∙ made.fits)) c.recovered.ensures.replays
+
+pub returns-in-Ok-clause-no_file : goal.returns-in-Ok-clause-no_file
+returns-in-Ok-clause-no_file g c = λ none. absurd (c.in-Ok.ensures.no_file none)

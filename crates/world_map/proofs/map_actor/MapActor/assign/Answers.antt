@@ -15,7 +15,7 @@ returns-clause-ok c =
     let up : x.file.stopped ≡ false = sym c.is_stopped.ensures ∙ c.if-is_stopped.false in
     subst (λ (s : MapSeen). IfOk c.outcome.result (λ step. MapSimulates s (seen_of t y) (λ k. assigns k c.args.range c.args.server c.args.until) step.packets [])) c.self.view_is
     (if_packets c.outcome.result (λ packets. MapSimulates (seen_of t x) (seen_of t y) (λ k. assigns k c.args.range c.args.server c.args.until) packets []) c.assign-done.result c.outcome.ensures.packets c.outcome.ensures.ok
-    (assign_went x y c.args.range c.args.server t c.args.until c.assign-done.result up (e.refused up) (e.performed up) e.taken (sym (e.replays up).replays)))
+    (assign_went x y c.args.range c.args.server t c.args.until c.assign-done.result up e.refused e.performed e.taken (sym e.replays.replays)))
 
 pub returns-clause-refusal : goal.returns-clause-refusal
 returns-clause-refusal c =
@@ -25,7 +25,7 @@ returns-clause-refusal c =
     let e = c.assign-done.ensures in
     let up : x.file.stopped ≡ false = sym c.is_stopped.ensures ∙ c.if-is_stopped.false in
     subst (λ (s : MapSeen). IfOk c.outcome.result (λ step. step.refusal ≡ assign_refusal s s.moment c.args.range c.args.server)) c.self.view_is
-    (if_refusal c.outcome.result c.assign-done.result (assign_refusal (seen_of t x) t c.args.range c.args.server) c.outcome.ensures.refusal (assign_refused x y c.args.range c.args.server t c.args.until c.assign-done.result up (e.refused up) (e.performed up) e.taken))
+    (if_refusal c.outcome.result c.assign-done.result (assign_refusal (seen_of t x) t c.args.range c.args.server) c.outcome.ensures.refusal (assign_refused x y c.args.range c.args.server t c.args.until c.assign-done.result up e.refused e.performed e.taken))
 
 pub returns-clause-err : goal.returns-clause-err
 returns-clause-err c =
@@ -35,4 +35,4 @@ returns-clause-err c =
     let e = c.assign-done.ensures in
     let up : x.file.stopped ≡ false = sym c.is_stopped.ensures ∙ c.if-is_stopped.false in
     subst (λ (s : MapSeen). OnErr c.outcome.result (seen_of t y ≡ s)) c.self.view_is
-    (if_short c.outcome.result c.assign-done.result c.outcome.ensures.err (assign_short x y c.args.range c.args.server t c.args.until c.assign-done.result up (e.refused up) (e.performed up) e.taken))
+    (if_short c.outcome.result c.assign-done.result c.outcome.ensures.err (assign_short x y c.args.range c.args.server t c.args.until c.assign-done.result up e.refused e.performed e.taken))
