@@ -25,8 +25,8 @@ class Ran:
     told: bytes
 
 
-def run(words, lines=(), more=None):
-    """Runs a command on a script, which is written to a file first; its status has to be 0."""
+def run(words, lines=(), more=None, wanted=0):
+    """Runs a command on a script, which is written to a file first; its status has to be 0, or the one that is wanted."""
     with tempfile.TemporaryFile() as script, tempfile.TemporaryFile() as told:
         for line in lines:
             script.write(line.encode() + b"\n")
@@ -40,7 +40,7 @@ def run(words, lines=(), more=None):
         _, status, usage = os.wait4(child.pid, 0)
         told.seek(0)
         said = told.read()
-        if status != 0:
+        if os.waitstatus_to_exitcode(status) != wanted:
             raise Failed(f"{' '.join(words)} ended with status {os.waitstatus_to_exitcode(status)}: {said[-400:].decode(errors='replace')}")
         return Ran(usage.ru_utime + usage.ru_stime, usage.ru_maxrss * 1024, usage.ru_minflt, out, said)
 

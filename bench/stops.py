@@ -11,7 +11,7 @@ is to be sealed is. Of each run are looked at:
 - extents: one is sealed at one length, has what was acknowledged up to it, and shows the same groups at each node;
 - loads: each is of all transactions that were done by then, by their numbers, and each assignment after the row is followed by its load;
 - tables: what users read at the end is what the transactions that were done make of the table, in their order, and any of those that
-  were sent and neither done nor refused.
+  were sent, not done, and not refused as soon as they came.
 
 Each run in which one of these does not hold is a line on standard output, and each row has one that counts its runs. The status is 1
 where there was such a run, and 2 where none was made. The program is crates/stampctl/out/stampctl, which the gate proves and builds, or
@@ -80,7 +80,8 @@ class Seen:
 
     def __init__(self):
         self.sealed, self.acked, self.content = {}, [], {}
-        self.sent, self.over, self.done = {}, set(), []  # transactions by their ticket, those that are refused, those done
+        self.sent, self.over, self.done = {}, set(), []  # transactions by their ticket, those that no server took, those done
+        self.asked = {}  # the ticket that a packet brings to a server, by the event that delivers it
         self.numbers = collections.defaultdict(int)  # the highest number that is done, by range
         self.tickets = 0
         self.assigned, self.loaded = {}, collections.defaultdict(int)
@@ -101,12 +102,15 @@ class Seen:
                 self.gets[self.tickets] = (int(words[4]), words[5])
             self.tickets += 1
 
-    def take_packet(self, kind, fields):
+    def take_packet(self, packet, kind, fields):
         ticket = fields.get("request", "")
         number = int(ticket[3:]) if ticket.startswith("u1.") else None
         if kind == "Committed":
             self.done.append(number)
-        if kind == "Refused" and number is not None:
+        if kind == "Transact":
+            self.asked["deliver", packet] = number
+        # one that was taken may stand in the log, also where its user is told later that the server lost the range or its lease
+        if kind == "Refused" and number is not None and self.asked.get(tuple(self.event)) == number:
             self.over.add(number)
         if kind == "Assign" and self.at_end:
             self.assigned[int(fields["range"])] = int(fields["generation"])
@@ -134,7 +138,7 @@ class Seen:
         if line.startswith("> "):
             self.take_event(words[1:])
         elif packet:
-            self.take_packet(packet[4], fields_of(packet[5]))
+            self.take_packet(packet[1], packet[4], fields_of(packet[5]))
         elif words[0] == "sealed":
             self.take_seal(words[1], int(words[2]))
         elif words[0] == "acked":

@@ -123,6 +123,33 @@ fn a_file_of_two_records(rt: HostRuntime) -> Result<(), Fail> {
     Ok(())
 }
 
+/// How many records a file of two has once it is opened again, before it takes one more.
+fn opened_again(alloc: Global, halts: bool) -> Result<usize, Fail> {
+    let mut file = empty(alloc)?;
+    append_two(alloc, &mut file)?;
+    if halts {
+        file.halt();
+    }
+    match file.reopened(alloc) {
+        Ok(again) => one_more_in(alloc, again),
+        Err((fault, _disk)) => Err(Fail::from(fault)),
+    }
+}
+
+fn one_more_in(alloc: Global, file: RecordFile<MemDisk>) -> Result<usize, Fail>
+    requires { file.stopped ≡ false }
+{
+    let mut file = file;
+    one_more_record(alloc, &mut file)
+}
+
+#[test]
+fn a_file_is_opened_again_whether_it_has_stopped_or_not(rt: HostRuntime) -> Result<(), Fail> {
+    assert!(rt; opened_again(rt.alloc(), false)? == 2);
+    assert!(rt; opened_again(rt.alloc(), true)? == 2);
+    Ok(())
+}
+
 /// Where the second gate is.
 const SECOND_GATE: usize = 33;
 
