@@ -199,18 +199,16 @@ def loads_behind(since):
 
 def dumps(count):
     """The seconds of a dump of so many records of 1 KiB, over those of opening and reading them alone, and the peak over the file."""
-    with tempfile.NamedTemporaryFile() as file, tempfile.NamedTemporaryFile() as short:
-        content = scripts.record_file(count)
-        for of, kept in ((file, content), (short, content[:-1])):
-            of.write(kept)
-            of.flush()
+    with tempfile.NamedTemporaryFile() as file:
+        file.write(scripts.record_file(count))
+        file.flush()
         ran = best([STAMPCTL, "dump", file.name])
         if ran.out.count(b"\n") != count or not ran.out.startswith(b"append 1 0 1024\n"):
             raise Failed(f"a dump of {count} records does not tell them; its last line is {last_line(ran)}")
-        # without its last byte the file is read to its end, and then refused
-        read = min((run([STAMPCTL, "dump", short.name], wanted=1) for _ in range(ROUNDS)), key=lambda it: it.seconds)
-        ends_with(read, "refused 21 Damaged")
-        return [ran.seconds, ran.seconds / read.seconds, ran.peak / len(content), ran.pages]
+        # where nothing can be written it ends with the first 64 KiB of lines, after all was read
+        shell = ["sh", "-c", 'exec "$0" dump "$1" > /dev/full', STAMPCTL, file.name]
+        read = min(run(shell, wanted=1).seconds for _ in range(ROUNDS))
+        return [ran.seconds, ran.seconds / read, ran.peak / file.tell(), ran.pages]
 
 
 def splits(keys):

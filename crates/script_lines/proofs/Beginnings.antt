@@ -1,6 +1,7 @@
 -- What a line and a request begin with.
-use Rattle.std.proofs.Common.{◌≡◌, ◌<◌, ◌∷◌, ℕ, length, List, Option, None, Some, IfSome, [], ap, arith, codes, drop, get_or, subst, sym}
+use Rattle.std.proofs.Common.{◌≡◌, ◌<◌, ◌∷◌, ℕ, length, List, Option, None, Some, IfSome, [], ap, arith, codes, drop, get_or, option_map, subst, sym}
 use Rattle.std.specs.List.{AllByRecursion}
+use Rattle.model_streams.specs.declared.event.Event.{Event}
 use Rattle.model_streams.specs.declared.event.Event.TheVariants as events
 use Rattle.wire.specs.declared.transaction.Change.{Change}
 use Rattle.script_lines.specs.Grammar.{Asks, HasForm, Spells}
@@ -63,6 +64,14 @@ pub form_spelled : (read : Option Line) (words row : List (List ℕ)) → AllByR
     → Reads HasForm read row → IfSome read (λ line. Spells line words)
 form_spelled None words row filled same h = tt
 form_spelled (Some line) words row filled same h = (filled, subst (HasForm line) (sym same) h)
+
+-- the line of an event has the form that the event has
+pub form_of_event : (event : Option Event) (verb named : Verb) (words : List (List ℕ)) → verb ≡ named
+    → Reads HasForm (option_map lines.Happens event) (verb_word named ∷ words) → (line : Option Line) → line ≡ option_map lines.Happens event
+    → Reads HasForm line (verb_word verb ∷ words)
+form_of_event event verb named words is h line same =
+    subst (λ (read : Option Line). Reads HasForm read (verb_word verb ∷ words)) (sym same)
+    (subst (λ (v : Verb). Reads HasForm (option_map lines.Happens event) (verb_word v ∷ words)) (sym is) h)
 
 tx_apart : (b : ℕ) (rest : List ℕ) → (◌≡◌ {A = ℕ} 116 b → ⊥) → codes "tx" ≡ b ∷ rest → ⊥
 tx_apart b rest ne e = ne (ap (λ (t : List ℕ). get_or t 0 0) e)

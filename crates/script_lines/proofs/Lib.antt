@@ -1,4 +1,5 @@
 pub mod Beginnings
+pub mod Copying
 pub mod Lists
 pub mod Names
 pub mod TextLines

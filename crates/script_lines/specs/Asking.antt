@@ -1,5 +1,6 @@
 -- What the lines of a script submit.
-use Rattle.std.specs.Prelude.{ℕ, true}
+use Rattle.std.specs.Prelude.{◌≡◌, ℕ, true}
+use Rattle.wire.specs.declared.actor.ActorId.{ActorId}
 use Rattle.wire.specs.declared.actor.ActorId.TheVariants as actors
 use Rattle.wire.specs.declared.actor.ReqNo.{ReqNo}
 use Rattle.wire.specs.declared.body.AppendBody.TheVariants as appends
@@ -44,3 +45,7 @@ asked user number (requests.Transact server range changes) = ask_by user server 
 asked user number (requests.Get server range key) = ask_by user server (tables.Get range key number)
 asked user number (requests.Route key) = Submit user actors.Map (bodies.Map (maps.Route key number))
 asked user number (requests.Seal extent) = call_by user (bodies.Seal (seals.SealExtent extent number))
+
+-- whom this request asks and what, whichever user submits it
+abbrev pub IsCall : ReqNo → Request → ActorId × Body → Type 0
+IsCall number request call = (user : ℕ) → asked user number request ≡ Submit user call.0 call.1

@@ -5,3 +5,4 @@ pub mod Sequences
 pub mod Grammar
 pub mod Verbs
 pub mod Asking
+pub mod Copies

@@ -8,6 +8,8 @@
 #![tactic(auto)]
 
 mod asking;
+mod boxed_event;
+mod copies;
 mod line;
 mod reading;
 mod requesting;
@@ -16,8 +18,9 @@ mod text;
 mod verb;
 mod word;
 
-pub use asking::event_of;
+pub use asking::{call_of, event_of};
+pub use boxed_event::BoxedEvent;
 pub use line::{Line, Request};
 pub use reading::parse;
-pub use spelling::{number, words};
+pub use spelling::{number, words, words_into};
 pub use text::lines_of;

@@ -1,11 +1,13 @@
 //! The lines of a script, in words.
-ghost use Rattle.std.specs.Prelude.{◌∷◌, ◌<◌, ◌↔◌, codes, length, map, IfNone, IfOk, IfSome, IsTrue};
+ghost use Rattle.std.specs.Prelude.{◌∷◌, ◌<◌, ◌↔◌, ◌≡◌, codes, length, map, option_map, IfNone, IfOk, IfSome, IsTrue};
 ghost use Rattle.std.specs.List.{All};
 ghost use Rattle.script_lines.specs.Grammar.{HasForm, Spells};
 ghost use Rattle.script_lines.specs.Sequences.{Reads};
 ghost use Rattle.script_lines.specs.Verbs.{verb_word};
 ghost use Rattle.script_lines.specs.declared.line.Line.{Line};
+ghost use Rattle.script_lines.specs.declared.line.Line.TheVariants as lines;
 
+use crate::boxed_event::BoxedEvent;
 use crate::line::Line;
 use crate::requesting::{nodes, request};
 use crate::spelling::{key, number};
@@ -53,16 +55,16 @@ fn line_behind(alloc: Global, verb: Verb, words: &[&str]) -> Result<Option<Line>
         Verb::Cut => Ok(cut(words)),
         Verb::Heal => Ok(heal(words)),
         Verb::Show => Ok(show(words)),
-        Verb::Stop => Ok(stop(words)),
-        Verb::Restart => Ok(restart(words)),
-        Verb::Decide => Ok(decide(words)),
-        Verb::GiveUp => Ok(give_up(words)),
-        Verb::Checkpoint => Ok(checkpoint(words)),
+        Verb::Stop => happens(alloc, stop(words)),
+        Verb::Restart => happens(alloc, restart(words)),
+        Verb::Decide => happens(alloc, decide(words)),
+        Verb::GiveUp => happens(alloc, give_up(words)),
+        Verb::Checkpoint => happens(alloc, checkpoint(words)),
         Verb::Split => split(alloc, words),
-        Verb::Merge => Ok(merge(words)),
-        Verb::Assign => Ok(assign(words)),
-        Verb::Renew => Ok(renew(words)),
-        Verb::Moment => Ok(moment(words)),
+        Verb::Merge => happens(alloc, merge(words)),
+        Verb::Assign => happens(alloc, assign(words)),
+        Verb::Renew => happens(alloc, renew(words)),
+        Verb::Moment => happens(alloc, moment(words)),
     }
 }
 
@@ -135,63 +137,73 @@ fn show(words: &[&str]) -> Option<Line>
     })
 }
 
+/// The line of an event, if there is one. An error is out of memory (22).
+fn happens(alloc: Global, event: Option<Event>) -> Result<Option<Line>, AllocError>
+    ensures { IfOk result (λ line. line ≡ option_map lines.Happens event) }
+{
+    match event {
+        Some(event) => Ok(Some(Line::Happens(BoxedEvent::new(alloc, event)?))),
+        None => Ok(None),
+    }
+}
+
 /// A stop: whose, in which device call, and whether the bytes of that call are kept.
-fn stop(words: &[&str]) -> Option<Line>
-    ensures { Reads HasForm result (codes "stop" ∷ map (λ w. w.now) words.now) }
+fn stop(words: &[&str]) -> Option<Event>
+    ensures { Reads HasForm (option_map lines.Happens result) (codes "stop" ∷ map (λ w. w.now) words.now) }
 {
     let [name, call, bytes] = words else {
         return None;
     };
-    Some(Line::Happens(Event::Stop {
+    Some(Event::Stop {
         actor: actor(name)?,
         call: number(call)?,
         keep: fate(bytes)?,
-    }))
+    })
 }
 
-fn restart(words: &[&str]) -> Option<Line>
-    ensures { Reads HasForm result (codes "restart" ∷ map (λ w. w.now) words.now) }
+fn restart(words: &[&str]) -> Option<Event>
+    ensures { Reads HasForm (option_map lines.Happens result) (codes "restart" ∷ map (λ w. w.now) words.now) }
 {
     let [name] = words else {
         return None;
     };
-    Some(Line::Happens(Event::Restart {
+    Some(Event::Restart {
         actor: actor(name)?,
-    }))
+    })
 }
 
-fn decide(words: &[&str]) -> Option<Line>
-    ensures { Reads HasForm result (codes "decide" ∷ map (λ w. w.now) words.now) }
+fn decide(words: &[&str]) -> Option<Event>
+    ensures { Reads HasForm (option_map lines.Happens result) (codes "decide" ∷ map (λ w. w.now) words.now) }
 {
     let [extent] = numbers::<1>(words)?;
-    Some(Line::Happens(Event::Decide {
+    Some(Event::Decide {
         extent: ExtentId(extent),
-    }))
+    })
 }
 
-fn give_up(words: &[&str]) -> Option<Line>
-    ensures { Reads HasForm result (codes "giveup" ∷ map (λ w. w.now) words.now) }
+fn give_up(words: &[&str]) -> Option<Event>
+    ensures { Reads HasForm (option_map lines.Happens result) (codes "giveup" ∷ map (λ w. w.now) words.now) }
 {
     let [by, range, primary, second, third] = numbers::<5>(words)?;
-    Some(Line::Happens(Event::GiveUp {
+    Some(Event::GiveUp {
         server: server(by),
         range: RangeId(range),
         pick: nodes(primary, second, third),
-    }))
+    })
 }
 
 /// A checkpoint of a range at a server.
-fn checkpoint(words: &[&str]) -> Option<Line>
-    ensures { Reads HasForm result (codes "checkpoint" ∷ map (λ w. w.now) words.now) }
+fn checkpoint(words: &[&str]) -> Option<Event>
+    ensures { Reads HasForm (option_map lines.Happens result) (codes "checkpoint" ∷ map (λ w. w.now) words.now) }
 {
     let [by, range, kind] = words else {
         return None;
     };
-    Some(Line::Happens(Event::Checkpoint {
+    Some(Event::Checkpoint {
         server: server(number(by)?),
         range: RangeId(number(range)?),
         combine: manner(kind)?,
-    }))
+    })
 }
 
 /// A split of a range at a server: the key at which the upper one begins.
@@ -204,50 +216,51 @@ fn split(alloc: Global, words: &[&str]) -> Result<Option<Line>, AllocError>
     let (Some(by), Some(range)) = (number(by), number(range)) else {
         return Ok(None);
     };
-    Ok(Some(Line::Happens(Event::Split {
+    let event = Event::Split {
         server: server(by),
         range: RangeId(range),
         key: key(alloc, name)?,
-    })))
+    };
+    Ok(Some(Line::Happens(BoxedEvent::new(alloc, event)?)))
 }
 
 /// A merge of two ranges at a server: that of the lower keys comes first.
-fn merge(words: &[&str]) -> Option<Line>
-    ensures { Reads HasForm result (codes "merge" ∷ map (λ w. w.now) words.now) }
+fn merge(words: &[&str]) -> Option<Event>
+    ensures { Reads HasForm (option_map lines.Happens result) (codes "merge" ∷ map (λ w. w.now) words.now) }
 {
     let [by, left, right] = numbers::<3>(words)?;
-    Some(Line::Happens(Event::Merge {
+    Some(Event::Merge {
         server: server(by),
         left: RangeId(left),
         right: RangeId(right),
-    }))
+    })
 }
 
-fn assign(words: &[&str]) -> Option<Line>
-    ensures { Reads HasForm result (codes "assign" ∷ map (λ w. w.now) words.now) }
+fn assign(words: &[&str]) -> Option<Event>
+    ensures { Reads HasForm (option_map lines.Happens result) (codes "assign" ∷ map (λ w. w.now) words.now) }
 {
     let [range, to, until] = numbers::<3>(words)?;
-    Some(Line::Happens(Event::Assign {
+    Some(Event::Assign {
         range: RangeId(range),
         server: server(to),
         until,
-    }))
+    })
 }
 
-fn renew(words: &[&str]) -> Option<Line>
-    ensures { Reads HasForm result (codes "renew" ∷ map (λ w. w.now) words.now) }
+fn renew(words: &[&str]) -> Option<Event>
+    ensures { Reads HasForm (option_map lines.Happens result) (codes "renew" ∷ map (λ w. w.now) words.now) }
 {
     let [range, of, until] = numbers::<3>(words)?;
-    Some(Line::Happens(Event::Renew {
+    Some(Event::Renew {
         range: RangeId(range),
         server: server(of),
         until,
-    }))
+    })
 }
 
-fn moment(words: &[&str]) -> Option<Line>
-    ensures { Reads HasForm result (codes "moment" ∷ map (λ w. w.now) words.now) }
+fn moment(words: &[&str]) -> Option<Event>
+    ensures { Reads HasForm (option_map lines.Happens result) (codes "moment" ∷ map (λ w. w.now) words.now) }
 {
     let [now] = numbers::<1>(words)?;
-    Some(Line::Happens(Event::Moment { now }))
+    Some(Event::Moment { now })
 }

@@ -1,13 +1,15 @@
 //! What the words of a line spell: numbers and bytes.
-ghost use Rattle.std.specs.Prelude.{◌≡◌, ◌==◌, ◌<◌, ◌≤◌, true, map, length, replicate, IfNone, IfOk, IfSome};
+ghost use Rattle.std.specs.Prelude.{◌≡◌, ◌==◌, ◌<◌, ◌≤◌, false, true, map, length, IfNone, IfOk, IfSome, OnOk};
 ghost use Rattle.std.specs.Option.{SomeIff};
 ghost use Rattle.std.specs.Char.{is_ascii_digit};
 ghost use Rattle.std.specs.List.{list_all, repeat, slice_split};
 ghost use Rattle.std.specs.Str.{chars};
 ghost use Rattle.std.specs.Str.Parse.{digits_value};
+ghost use Rattle.script_lines.specs.Copies.{bytes_of};
 ghost use Rattle.script_lines.specs.Limits.{most_copies};
 ghost use Rattle.script_lines.specs.Values.{AsksCopies, IsNumber, IsTooMany, IsValue, after_star, before_star};
 
+use crate::copies::Copies;
 use bytes::Bytes;
 use std::alloc::{AllocError, Global};
 
@@ -17,22 +19,25 @@ const MOST_COPIES: u64 = 16_777_216;
 /// As many words as nearly all lines have, for which room is made at once.
 const USUAL_WORDS: usize = 8;
 
-/// The bytes of a value word: `N*c` is N copies of the character c, `-` is no byte, and any other word is itself.
+/// What a value word stands for: `N*c` is N copies of the character c, `-` is no byte, and any other word is itself.
 /// A word that asks for more copies than the most cannot be read.
-pub fn value(alloc: Global, word: &str) -> Result<Option<Vec<u8>>, AllocError>
-    ensures found { IfOk result (λ value. IfSome value (λ bytes. IsValue word.now bytes.items)) }
-    ensures none { IfOk result (λ value. IfNone value (IsTooMany word.now)) }
+pub fn value(word: &str) -> Option<Copies<'_>>
+    ensures found { IfSome result (λ copies. IsValue word.now (bytes_of copies)) }
+    ensures none { IfNone result (IsTooMany word.now) }
 {
     if let Some((count, copied)) = copies(word) {
-        return repeated(alloc, count, copied);
+        return repeated(count, copied);
     }
     if word == "-" {
-        return Ok(Some(Vec::new(alloc)));
+        return Some(Copies {
+            count: 0,
+            text: word,
+        });
     }
-    match Vec::from_slice(alloc, word.as_bytes()) {
-        Ok(bytes) => Ok(Some(bytes)),
-        Err(refused) => Err(refused),
-    }
+    Some(Copies {
+        count: 1,
+        text: word,
+    })
 }
 
 /// What stands before and after the star of a word that asks for copies.
@@ -41,6 +46,9 @@ fn copies(word: &str) -> Option<(&str, &str)>
         × (parts.0.now ≡ before_star word.now) × (parts.1.now ≡ after_star word.now)) }
     ensures none { IfNone result (AsksCopies word.now → ⊥) }
 {
+    if !begins_with_digit(word) {
+        return None;
+    }
     let Some((count, copied)) = word.split_once('*') else {
         return None;
     };
@@ -51,46 +59,32 @@ fn copies(word: &str) -> Option<(&str, &str)>
     }
 }
 
+/// Whether a digit stands first, as it does in each word that asks for copies: so no star is looked for in most words.
+fn begins_with_digit(word: &str) -> bool
+    ensures { result ≡ false → AsksCopies word.now → ⊥ }
+{
+    match word.as_bytes() {
+        [first, ..] => first.is_ascii_digit(),
+        [] => false,
+    }
+}
+
 /// As many copies as the numeral says, if these are not too many.
-fn repeated(alloc: Global, count: &str, copied: &str) -> Result<Option<Vec<u8>>, AllocError>
+fn repeated<'a>(count: &str, copied: &'a str) -> Option<Copies<'a>>
     requires digits { list_all is_ascii_digit count.now ≡ true }
     requires some { 0 < length count.now }
-    ensures found { IfOk result (λ value. IfSome value (λ bytes. (digits_value 10 count.now ≤ most_copies)
-        × (bytes.items ≡ repeat (digits_value 10 count.now) copied.now))) }
-    ensures none { IfOk result (λ value. IfNone value (most_copies < digits_value 10 count.now)) }
+    ensures found { IfSome result (λ copies. (digits_value 10 count.now ≤ most_copies)
+        × (bytes_of copies ≡ repeat (digits_value 10 count.now) copied.now)) }
+    ensures none { IfNone result (most_copies < digits_value 10 count.now) }
 {
-    let Some(count) = number(count) else {
-        return Ok(None);
-    };
+    let count = number(count)?;
     if count > MOST_COPIES {
-        return Ok(None);
+        return None;
     }
-    match copies_of(alloc, count as usize, copied) {
-        Ok(bytes) => Ok(Some(bytes)),
-        Err(refused) => Err(refused),
-    }
-}
-
-/// The bytes of so many copies of a character. Most characters are one byte, and of that there is one fill.
-fn copies_of(alloc: Global, count: usize, copied: &str) -> Result<Vec<u8>, AllocError>
-    ensures { IfOk result (λ bytes. bytes.items ≡ repeat count copied.now) }
-{
-    match copied.as_bytes() {
-        [byte] => filled(alloc, count, *byte),
-        _ => match copied.repeat(alloc, count) {
-            Ok(text) => Ok(text.into_bytes()),
-            Err(refused) => Err(refused),
-        },
-    }
-}
-
-/// So many copies of a byte, in one piece of memory of just that length.
-fn filled(alloc: Global, count: usize, byte: u8) -> Result<Vec<u8>, AllocError>
-    ensures { IfOk result (λ bytes. bytes.items ≡ replicate count byte) }
-{
-    let mut bytes = Vec::with_capacity(alloc, count)?;
-    bytes.resize(count, byte)?;
-    Ok(bytes)
+    Some(Copies {
+        count: count as usize,
+        text: copied,
+    })
 }
 
 /// How many characters the word has.
@@ -119,12 +113,22 @@ pub fn number(word: &str) -> Option<u64>
     }
 }
 
-/// The words of a line, which single blanks part.
+/// Puts the words of a line, which single blanks part, into a list in place of what it had. An error is out of memory (22), and
+/// the list then has some of them.
+pub fn words_into<'a>(line: &'a str, words: &mut Vec<&'a str>) -> Result<(), AllocError>
+    ensures { OnOk result (map (λ w. w.now) words.new.items ≡ slice_split (λ b. b == 32) line.now) }
+{
+    words.clear();
+    words.extend(line.split(' '))?;
+    Ok(())
+}
+
+/// The words of a line, which single blanks part. An error is out of memory (22).
 pub fn words(alloc: Global, line: &str) -> Result<Vec<&str>, AllocError>
     ensures { IfOk result (λ words. map (λ w. w.now) words.items ≡ slice_split (λ b. b == 32) line.now) }
 {
     let mut words = Vec::with_capacity(alloc, USUAL_WORDS)?;
-    words.extend(line.split(' '))?;
+    words_into(line, &mut words)?;
     Ok(words)
 }
 

@@ -1,14 +1,19 @@
 //! What the single words of a line spell.
-ghost use Rattle.std.specs.Prelude.{◌≡◌, ◌<◌, map, min, length, IfNone, IfOk, IfSome};
+ghost use Rattle.std.specs.Prelude.{◌≡◌, ◌<◌, ℕ, List, Some, map, min, length, IfNone, IfOk, IfSome};
 ghost use Rattle.std.specs.List.{AllByRecursion};
+ghost use Rattle.script_lines.specs.Copies.{bytes_of};
 ghost use Rattle.script_lines.specs.Sequences.{Reads, each};
 ghost use Rattle.script_lines.specs.Values.{IsNumber, IsValue};
 ghost use Rattle.script_lines.specs.Words.{Denotes, DenotesUpTo, IsActor, IsChange, IsFate, IsManner, IsLast, kind_number};
 
+use crate::copies::{Copies, joined, spelled_out};
 use crate::spelling::{key, number, value};
 use bytes::Bytes;
 use std::alloc::{AllocError, Global};
 use wire::{ActorId, Change, Changes, ServerNo, StreamKind};
+
+/// The most bytes of a value that shares memory with its key, so that no key holds much more than itself.
+const MOST_SHARED: usize = 4096;
 
 /// The numbers of these words, if there are so many and each is one.
 pub fn numbers<const N: usize>(words: &[&str]) -> Option<[u64; N]>
@@ -138,38 +143,60 @@ pub fn change(alloc: Global, word: &str) -> Result<Option<Change>, AllocError>
     let Some((name, word)) = put.split_once('=') else {
         return Ok(None);
     };
-    match block(alloc, word)? {
-        Some(bytes) => Ok(Some(Change {
-            key: key(alloc, name)?,
-            value: Some(bytes),
-        })),
+    match value(word) {
+        Some(copies) => Ok(Some(put_of(alloc, name, copies)?)),
         None => Ok(None),
     }
 }
 
-/// The bytes of a value word.
-pub fn block(alloc: Global, word: &str) -> Result<Option<Bytes>, AllocError>
-    ensures { IfOk result (λ block. Reads (λ bytes text. IsValue text bytes) block word.now) }
+/// A change that puts a value under a key. A short value shares memory with its key, and a long one has its own.
+fn put_of(alloc: Global, name: &str, copies: Copies) -> Result<Change, AllocError>
+    ensures { IfOk result (λ change. change ≡ record { key = name.now; value = Some (bytes_of copies.entry) }) }
 {
-    match value(alloc, word)? {
-        Some(bytes) => Ok(Some(Bytes::from_vec(bytes)?)),
-        None => Ok(None),
+    if copies.length()? > MOST_SHARED {
+        return Ok(Change {
+            key: key(alloc, name)?,
+            value: Some(joined(alloc, &[copies])?),
+        });
     }
+    let text = Copies {
+        count: 1,
+        text: name,
+    };
+    let mut rest = joined(alloc, &[text, copies])?;
+    let key = rest.split_to(name.len())?;
+    Ok(Change {
+        key,
+        value: Some(rest),
+    })
 }
 
-/// The blocks of these words.
+/// What each of these words stands for.
+fn values<'a>(alloc: Global, words: &[&'a str]) -> Result<Option<Vec<Copies<'a>>>, AllocError>
+    ensures found { IfOk result (λ values. IfSome values (λ list.
+        each (λ copies text. IsValue text (bytes_of copies)) list.items (map (λ w. w.now) words.now))) }
+    ensures none { IfOk result (λ values. IfNone values ((list : List (List ℕ))
+        → each (λ bytes text. IsValue text bytes) list (map (λ w. w.now) words.now) → ⊥)) }
+{
+    let mut values = Vec::with_capacity(alloc, words.len())?;
+    for word in words {
+        match value(word) {
+            Some(copies) => values.push(copies)?,
+            None => return Ok(None),
+        }
+    }
+    Ok(Some(values))
+}
+
+/// The blocks of these words, which share one piece of memory.
 pub fn blocks(alloc: Global, words: &[&str]) -> Result<Option<Vec<Bytes>>, AllocError>
     ensures { IfOk result (λ blocks. Reads
         (λ list texts. each (λ bytes text. IsValue text bytes) list.items texts) blocks (map (λ w. w.now) words.now)) }
 {
-    let mut blocks = Vec::with_capacity(alloc, words.len())?;
-    for word in words {
-        match block(alloc, word)? {
-            Some(block) => blocks.push(block)?,
-            None => return Ok(None),
-        }
+    match values(alloc, words)? {
+        Some(values) => Ok(Some(spelled_out(alloc, values.as_slice())?)),
+        None => Ok(None),
     }
-    Ok(Some(blocks))
 }
 
 /// The changes of these words.

@@ -1,6 +1,7 @@
 -- A line that is written from its end to its beginning.
-use Rattle.std.proofs.Common.{◌≡◌, ◌+◌, ◌-◌, ◌^◌, ◌<◌, ◌≤◌, ◌∙◌, ◌++◌, ◌∷◌, ℕ, List, ap, arith, drop, length, length-append, length-drop, set}
+use Rattle.std.proofs.Common.{◌≡◌, ◌+◌, ◌-◌, ◌^◌, ◌<◌, ◌≤◌, ◌∙◌, ◌++◌, ◌∷◌, [], ℕ, List, ap, arith, drop, length, length-append, length-drop, set, sym}
 use Rattle.std.proofs.lemmas.List.{drop-set}
+use Rattle.std.proofs.Math.Seq.{drop-length}
 use Rattle.std.proofs.lemmas.Fmt.{length-decimal-le}
 use Rattle.std.specs.Fmt.{decimal}
 
@@ -14,6 +15,10 @@ short_decimal n below =
 pub number_fits : (n start : ℕ) (bytes text : List ℕ) → n < 2 ^ 64 → length bytes ≡ 128 → drop start bytes ≡ text → start ≤ 128 → length text + 21 ≤ 128 → length (decimal n) + 1 ≤ start
 number_fits n start bytes text below whole is within room =
     omega (arith, short_decimal n below, ap length is, length-drop start bytes)
+
+-- the newline alone
+pub cleared : (bytes : List ℕ) → length bytes ≡ 128 → drop 127 (set bytes 127 10) ≡ 10 ∷ []
+cleared bytes whole = drop-set bytes 127 10 (omega (arith, whole)) ∙ ap (λ l. 10 ∷ l) (ap (λ n. drop n bytes) (sym whole) ∙ drop-length bytes)
 
 -- a number that was written before the text, and then the blank
 pub number_before : (n start first : ℕ) (before bytes text : List ℕ) → drop first bytes ≡ decimal n ++ drop start before → drop start before ≡ text

@@ -13,5 +13,5 @@ mod telling;
 
 pub use hex_text::HexText;
 pub use report::{Answer, Report, Standing};
-pub use short_line::{ShortLine, short_line_of};
+pub use short_line::ShortLine;
 pub use telling::{report_answer, report_note};

@@ -1,8 +1,8 @@
 //! A line that is printed often, put together in one piece of memory.
 //!
 //! A `write!` hands each of its pieces on alone, which costs more than the piece. So a line of few numbers is written here from its
-//! end to its beginning, and goes out as one.
-ghost use Rattle.std.specs.Prelude.{◌≡◌, ◌++◌, ◌∷◌, ◌+◌, ◌≤◌, [], IfSome, decimal, length};
+//! end to its beginning, and goes out as one. One piece of memory serves all lines, one after the other.
+ghost use Rattle.std.specs.Prelude.{◌≡◌, ◌++◌, ◌∷◌, ◌+◌, ◌≤◌, [], decimal, length, true};
 ghost use Rattle.script_reports.specs.Reports.{report_text};
 ghost use Rattle.script_reports.specs.Line.{three_line, told_line};
 
@@ -38,13 +38,21 @@ impl Model for ShortLine {
 
 impl ShortLine {
     /// Nothing but the newline.
-    fn newline() -> ShortLine
+    pub fn newline() -> ShortLine
         ensures { result ≡ 10 ∷ [] }
     {
         ShortLine {
             bytes: [b'\n'; ROOM],
             start: ROOM - 1,
         }
+    }
+
+    /// Goes back to nothing but the newline.
+    fn clear(&mut self)
+        ensures { self.new ≡ 10 ∷ [] }
+    {
+        self.bytes[ROOM - 1] = b'\n';
+        self.start = ROOM - 1;
     }
 
     /// Puts a blank and a number before the text.
@@ -68,71 +76,85 @@ impl ShortLine {
         self.start = start;
     }
 
+    /// Becomes a word and three numbers.
+    fn three(&mut self, word: &str, first: u64, second: u64, third: u64)
+        requires { length word.now ≤ 32 }
+        ensures { self.new ≡ three_line word.now first second third }
+    {
+        self.clear();
+        self.number(third);
+        self.number(second);
+        self.number(first);
+        self.word(word);
+    }
+
+    /// Becomes what an answer with one number tells a user.
+    fn told(&mut self, user: u64, ticket: u64, word: &str, number: u64)
+        requires { length word.now ≤ 32 }
+        ensures { self.new ≡ told_line user ticket word.now number }
+    {
+        self.clear();
+        self.number(number);
+        self.word(word);
+        self.number(ticket);
+        self.number(user);
+        self.word("user");
+    }
+
+    /// Becomes the line of a report with its newline, where the report is of a kind that is printed often, and answers whether it
+    /// is. Of any other there is the report's `Display`.
+    pub fn fill(&mut self, report: &Report) -> bool
+        ensures { result ≡ true → self.new ≡ report_text report.now ++ 10 ∷ [] }
+    {
+        match report {
+            Report::Acked {
+                extent,
+                offset,
+                size,
+            } => {
+                self.three("acked", *extent, u64::from(*offset), u64::from(*size));
+                true
+            }
+            Report::Began {
+                range,
+                generation,
+                number,
+            } => {
+                self.three("began", *range, *generation, *number);
+                true
+            }
+            Report::Done {
+                range,
+                generation,
+                number,
+            } => {
+                self.three("done", *range, *generation, *number);
+                true
+            }
+            Report::Told {
+                user,
+                ticket,
+                answer: Answer::Appended(offset),
+            } => {
+                self.told(*user, *ticket, " appended", u64::from(*offset));
+                true
+            }
+            Report::Told {
+                user,
+                ticket,
+                answer: Answer::Committed(number),
+            } => {
+                self.told(*user, *ticket, " committed", *number);
+                true
+            }
+            _ => false,
+        }
+    }
+
     /// The text.
     pub fn as_bytes(&self) -> &[u8]
         ensures { result.now ≡ self.now }
     {
         &self.bytes[self.start..]
-    }
-}
-
-/// A word and three numbers.
-fn three(word: &str, first: u64, second: u64, third: u64) -> ShortLine
-    requires { length word.now ≤ 32 }
-    ensures { result ≡ three_line word.now first second third }
-{
-    let mut line = ShortLine::newline();
-    line.number(third);
-    line.number(second);
-    line.number(first);
-    line.word(word);
-    line
-}
-
-/// What an answer with one number tells a user.
-fn told(user: u64, ticket: u64, word: &str, number: u64) -> ShortLine
-    requires { length word.now ≤ 32 }
-    ensures { result ≡ told_line user ticket word.now number }
-{
-    let mut line = ShortLine::newline();
-    line.number(number);
-    line.word(word);
-    line.number(ticket);
-    line.number(user);
-    line.word("user");
-    line
-}
-
-/// The line of a report with its newline, where it is of a kind that is printed often. Of any other there is the report's `Display`.
-pub fn short_line_of(report: &Report) -> Option<ShortLine>
-    ensures { IfSome result (λ line. line ≡ report_text report.now ++ 10 ∷ []) }
-{
-    match report {
-        Report::Acked {
-            extent,
-            offset,
-            size,
-        } => Some(three("acked", *extent, u64::from(*offset), u64::from(*size))),
-        Report::Began {
-            range,
-            generation,
-            number,
-        } => Some(three("began", *range, *generation, *number)),
-        Report::Done {
-            range,
-            generation,
-            number,
-        } => Some(three("done", *range, *generation, *number)),
-        Report::Told {
-            user,
-            ticket,
-            answer: Answer::Appended(offset),
-        } => Some(told(*user, *ticket, " appended", u64::from(*offset))),
-        Report::Told {
-            user,
-            ticket,
-            answer: Answer::Committed(number),
-        } => Some(told(*user, *ticket, " committed", *number)),
-        _ => None,
     }
 }

@@ -1,12 +1,17 @@
 -- Lines that are played in turn, and packets that a settle delivers in turn.
-use Rattle.std.proofs.Common.{◌≡◌, ◌∙◌, ap, refl, sym, subst, inl, inr, arith, ℕ, suc, ◌+◌, ◌<◌, ◌≤◌, Bool, List, [], ◌∷◌, ◌++◌, length, Option, Some, append-nil, append_assoc, add-one}
+use Rattle.std.proofs.Common.{◌≡◌, ◌∙◌, ap, refl, sym, subst, inl, inr, arith, ℕ, suc, ◌+◌, ◌<◌, ◌≤◌, Bool, List, [], ◌∷◌, ◌++◌, drop, length, Option, None, Some, append-nil, append_assoc, add-one}
+use Rattle.std.proofs.Math.Seq.{drop-length}
 use Rattle.std.proofs.lemmas.Option.{slice_get_past, slice_get_read}
 use Rattle.std.specs.List.{slice_get, slice_index_or}
 use Rattle.std.specs.Io.KnownBytes.{Appends}
 use Rattle.wire.specs.declared.actor.ReqNo.TheVariants.{User}
+use Rattle.wire.specs.declared.actor.ActorId.{ActorId}
+use Rattle.wire.specs.declared.actor.ActorId.TheVariants as actors
+use Rattle.wire.specs.declared.body.Body.{Body}
+use Rattle.wire.specs.declared.note.Note.{Note}
 use Rattle.wire.specs.declared.packet.Packet.{Packet}
 use Rattle.model_streams.specs.declared.event.Event.{Event}
-use Rattle.model_streams.specs.declared.event.Event.TheVariants.{Deliver}
+use Rattle.model_streams.specs.declared.event.Event.TheVariants.{Deliver, Submit}
 use Rattle.world_streams.specs.Nodes.{running_at}
 use Rattle.script_reports.specs.declared.report.Report.{Report}
 use Rattle.script_reports.specs.Reports.{report_text}
@@ -15,9 +20,9 @@ use Rattle.script_lines.specs.declared.line.Line.{Line}
 use Rattle.script_lines.specs.declared.line.Line.TheVariants.{Show}
 use Rattle.script_lines.specs.declared.line.Request.{Request}
 use Rattle.script_lines.specs.Asking.{asked}
-use Rattle.world.specs.Cluster.{ClusterState}
+use Rattle.world.specs.Cluster.{ClusterSimulates, ClusterState}
 use Rattle.script_run.specs.Deliveries.{Delivered, IsLowest, Passed}
-use Rattle.script_run.specs.Output.{Prints, PrintsEvent, line, node_report}
+use Rattle.script_run.specs.Output.{Prints, PrintsEvent, line, lines_of_notes, node_report}
 use Rattle.script_run.specs.Playing.{Delivers, DeliversIf, DeliversLowest, DeliversPacket, DeliversSome, Happens, IsSettled, Plays, PlaysAll, Settles, SessionState, Submits, most_deliveries}
 use Rattle.script_run.specs.Tickets.{Takes}
 use Rattle.script_run.proofs.Texts.{appends_both, appends_nothing}
@@ -62,22 +67,40 @@ pub settled_before : (a b : Option (List ℕ)) (s t u : SessionState) (n : ℕ) 
     → Prints a b (λ text. Settles s text u)
 settled_before a b s t u n few some settled = (some.0, record { count = n; few = few; last = t; delivers = some.1; ends = inr settled }, some.2)
 
--- a packet that is noted, whose event happens, and whose answer is printed
-pub handed_over : (a b c : Option (List ℕ)) (s r t : SessionState) (n : ℕ) (answer : Option Report) → Delivered s.noted n r.noted → r ≡ record s { noted = r.noted }
-    → Prints a b (λ text. Happens r (Deliver n) text t) → Appends b c (line answer) → Prints a c (λ text. DeliversPacket s n answer text t)
-handed_over a b c s r t n answer noted same happens told =
+-- a packet that is noted, and whose event happens
+pub passed_on : (a b : Option (List ℕ)) (s r t : SessionState) (n : ℕ) → Delivered s.noted n r.noted → r ≡ record s { noted = r.noted }
+    → Prints a b (λ text. Happens r (Deliver n) text t) → Prints a b (λ text. DeliversPacket s n None text t)
+passed_on a b s r t n noted same happens =
     let h = subst (λ (x : SessionState). Happens x (Deliver n) happens.0 t) same happens.1 in
     let kept = ap (λ (x : SessionState). x.noted) h.is in (
-      happens.0 ++ line answer,
+      happens.0,
       record {
         noted = subst (λ (m : List Bool). Delivered s.noted n m) (sym kept) noted;
         shown = happens.0;
         tells = h.tells;
-        prints = refl;
+        prints = sym (append-nil happens.0);
         is = h.is ∙ ap (λ (m : List Bool). record s { run = t.run; noted = m }) (sym kept);
       },
-      appends_both a b c happens.0 (line answer) happens.2 told,
+      happens.2,
     )
+
+-- and whose answer is printed
+pub handed_over : (a b c : Option (List ℕ)) (s t u : SessionState) (n : ℕ) (answer : Option Report)
+    → Prints a b (λ text. DeliversPacket s n None text t) → u ≡ t → Appends b c (line answer) → Prints a c (λ text. DeliversPacket s n answer text u)
+handed_over a b c s t u n answer passed stays told =
+    let d = subst (λ (x : SessionState). DeliversPacket s n None passed.0 x) (sym stays) passed.1 in (
+      d.shown ++ line answer,
+      record { noted = d.noted; shown = d.shown; tells = d.tells; prints = refl; is = d.is },
+      appends_both a b c d.shown (line answer) (subst (λ (text : List ℕ). Appends a b text) (d.prints ∙ append-nil d.shown) passed.2) told,
+    )
+
+-- a packet to anyone but a user brings no answer
+pub tells_nobody : (to : ActorId) (body : Body) → ((user : ℕ) → to ≡ actors.User user → ⊥) → None ≡ told_to to body
+tells_nobody (actors.Node n) body other = refl
+tells_nobody actors.Manager body other = refl
+tells_nobody actors.Map body other = refl
+tells_nobody (actors.Server s) body other = refl
+tells_nobody (actors.User u) body other = absurd (other u refl)
 
 -- a number that was never sent
 pub never_sent : (a : Option (List ℕ)) (s : SessionState) (n : ℕ) → length s.run.stream_layer.post ≤ n → Prints a a (λ text. Delivers s n text s)
@@ -93,13 +116,21 @@ sent_before a b s t n post p answer is within here told one =
     subst (λ (o : Option Packet). Prints a b (λ text. DeliversIf s n o text t)) (sym found)
     (subst (λ (r : Option Report). Prints a b (λ text. DeliversPacket s n r text t)) told one)
 
+-- a request of a user, which prints nothing
+pub sends : (x y : ClusterState) (user : ℕ) (to : ActorId) (body : Body) → ClusterSimulates x y (Submit user to body) → y.stream_layer.notes ≡ x.stream_layer.notes
+    → PrintsEvent x (Submit user to body) [] y
+sends x y user to body came same = record {
+  came = came;
+  is = sym (ap (λ (l : List Note). lines_of_notes (drop (length x.stream_layer.notes) l)) same ∙ ap lines_of_notes (drop-length x.stream_layer.notes));
+}
+
 -- a request that a user sends under its next ticket
-pub submitted : (a b : Option (List ℕ)) (s v : SessionState) (user ticket : ℕ) (request : Request) (event : Event) (tickets : List (ℕ × ℕ)) (run : ClusterState)
-    → v ≡ s → Takes v.tickets user ticket tickets → event ≡ asked user (User user ticket) request → Prints a b (λ text. PrintsEvent v.run event text run)
-    → Prints a b (λ text. Submits s user request text (record v { run = run; tickets = tickets }))
-submitted a b s v user ticket request event tickets run same takes is told =
-    subst (λ (x : SessionState). Prints a b (λ text. Submits x user request text (record v { run = run; tickets = tickets }))) same
-    (told.0, record { ticket = ticket; takes = takes; tells = subst (λ (e : Event). PrintsEvent v.run e told.0 run) is told.1; is = refl }, told.2)
+pub submitted : (s v : SessionState) (user ticket : ℕ) (request : Request) (event : Event) (tickets : List (ℕ × ℕ)) (run : ClusterState)
+    → v ≡ s → Takes v.tickets user ticket tickets → event ≡ asked user (User user ticket) request → PrintsEvent v.run event [] run
+    → Submits s user request [] (record v { run = run; tickets = tickets })
+submitted s v user ticket request event tickets run same takes is told =
+    subst (λ (x : SessionState). Submits x user request [] (record v { run = run; tickets = tickets })) same
+    (record { ticket = ticket; takes = takes; tells = subst (λ (e : Event). PrintsEvent v.run e [] run) is told; is = refl })
 
 -- what a line prints, by what the line is
 pub plays_as : (a b : Option (List ℕ)) (s t : SessionState) (line other : Line) → line ≡ other → Prints a b (λ text. Plays s other text t) → Prints a b (λ text. Plays s line text t)
@@ -110,11 +141,11 @@ pub plays_nothing : (a : Option (List ℕ)) (s t : SessionState) (line other : L
 plays_nothing a s t line other is one = plays_as a a s t line other is (prints_nothing a (λ text. Plays s other text t) one)
 
 -- a line that shows what a node has
-pub shows : (a b : Option (List ℕ)) (s v : SessionState) (line : Line) (node extent : ℕ) (report : Report) → line ≡ Show node extent → v ≡ s
-    → report ≡ node_report node extent (running_at v.run.stream_layer.nodes node) → Appends a b (report_text report ++ 10 ∷ []) → Prints a b (λ text. Plays s line text s)
-shows a b s v line node extent report is same told one =
+pub shows : (a b : Option (List ℕ)) (s v t : SessionState) (line : Line) (node extent : ℕ) (report : Report) → line ≡ Show node extent → v ≡ s → t ≡ s
+    → report ≡ node_report node extent (running_at v.run.stream_layer.nodes node) → Appends a b (report_text report ++ 10 ∷ []) → Prints a b (λ text. Plays s line text t)
+shows a b s v t line node extent report is same stays told one =
     let seen = told ∙ ap (λ (x : SessionState). node_report node extent (running_at x.run.stream_layer.nodes node)) same in
-    plays_as a b s s line (Show node extent) is (report_text report ++ 10 ∷ [], (ap (λ (r : Report). report_text r ++ 10 ∷ []) seen, refl), one)
+    plays_as a b s t line (Show node extent) is (report_text report ++ 10 ∷ [], (ap (λ (r : Report). report_text r ++ 10 ∷ []) seen, stays), one)
 
 -- the lowest packet, which is delivered once those below it were passed over
 pub lowest_delivered : (a b : Option (List ℕ)) (s r t : SessionState) (n : ℕ) → IsLowest s.cut s.run.stream_layer.post s.noted n × Passed s.noted n r.noted → r ≡ record s { noted = r.noted }

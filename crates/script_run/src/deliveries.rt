@@ -36,6 +36,9 @@ fn is_cut(cut: &[ActorId], sent: &[Packet], number: usize) -> bool
     }
 }
 
+/// How many packets more than are asked for get room at once, so that it is not made again at each delivery.
+const SPARE: usize = 1024;
+
 /// Makes room for what is noted of packet `number`.
 fn widen(noted: &mut Vec<bool>, number: usize) -> Result<(), AllocError>
     ensures same { OnOk result ((m : ℕ) → is_noted noted.new.items m ≡ is_noted noted.old.items m) }
@@ -45,7 +48,7 @@ fn widen(noted: &mut Vec<bool>, number: usize) -> Result<(), AllocError>
     if number < noted.len() {
         return Ok(());
     }
-    match number.checked_add(1) {
+    match number.checked_add(SPARE) {
         Some(room) => noted.resize(room, false),
         None => Err(AllocError),
     }

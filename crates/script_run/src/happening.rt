@@ -6,6 +6,7 @@ ghost use Rattle.script_run.specs.Output.{Prints, PrintsEvent, node_report, repl
 ghost use Rattle.enode.specs.Node.{find};
 ghost use Rattle.world_streams.specs.Nodes.{running_at};
 ghost use Rattle.model_streams.specs.Node.{contents};
+ghost use Rattle.model_streams.specs.declared.event.Event.TheVariants as events;
 ghost use Rattle.replica.specs.State.{content_of};
 ghost use Rattle.world.specs.Cluster.{ClusterSimulates, refusal_of};
 
@@ -14,7 +15,7 @@ use crate::printing::{print_since, print_some};
 use disk::MemDisk;
 use enode::Node;
 use replica::{Phase, Replica};
-use script_reports::{Report, Standing};
+use script_reports::{Report, ShortLine, Standing};
 use std::alloc::Global;
 use std::io::Write;
 use wire::ExtentId;
@@ -36,6 +37,7 @@ pub fn happen<W: Write>(
     run: &mut Run,
     alloc: Global,
     event: Event,
+    short: &mut ShortLine,
     writer: &mut W,
 ) -> Result<(), Failure>
     ensures told { OnOk result (Prints (W.contents writer.old) (W.contents writer.new) (λ text. PrintsEvent run.old event text run.new)) }
@@ -43,8 +45,25 @@ pub fn happen<W: Write>(
 {
     let shown = run.observations().len();
     let refused = step(run, alloc, event)?;
-    print_some(refused, writer)?;
-    print_since(alloc, run.observations(), shown, writer)
+    print_some(&refused, short, writer)?;
+    print_since(alloc, run.observations(), shown, short, writer)
+}
+
+/// The packet of this number comes to whom it is for, and what is observed of it is printed.
+pub fn deliver<W: Write>(
+    run: &mut Run,
+    alloc: Global,
+    number: usize,
+    short: &mut ShortLine,
+    writer: &mut W,
+) -> Result<(), Failure>
+    ensures told { OnOk result (Prints (W.contents writer.old) (W.contents writer.new)
+        (λ text. PrintsEvent run.old (events.Deliver number) text run.new)) }
+    ensures failed { IfErr result IsRunFailure }
+{
+    let shown = run.observations().len();
+    run.deliver(alloc, number)?;
+    print_since(alloc, run.observations(), shown, short, writer)
 }
 
 fn standing_of(phase: Phase) -> Standing

@@ -7,59 +7,73 @@ ghost use Rattle.script_run.specs.Failures.{IsRunFailure};
 ghost use Rattle.script_run.specs.Output.{line, lines_of_notes};
 
 use crate::error::Failure;
-use script_reports::{Report, report_note, short_line_of};
+use script_reports::{Report, ShortLine, report_note};
 use std::alloc::Global;
 use std::io::Write;
 use wire::Note;
 
 /// Prints a line, piece by piece.
-fn print_pieces<W: Write>(report: Report, writer: &mut W) -> Result<(), Failure>
+fn print_pieces<W: Write>(report: &Report, writer: &mut W) -> Result<(), Failure>
     ensures printed { OnOk result (Appends (W.contents writer.old) (W.contents writer.new)
-        (report_text report ++ 10 ∷ [])) }
+        (report_text report.now ++ 10 ∷ [])) }
     ensures failed { IfErr result IsRunFailure }
 {
     writeln!(writer, "{report}").map_err(Failure::Output)
 }
 
-/// Prints a line. One of a kind that is printed often goes out as one piece.
-pub fn print<W: Write>(report: Report, writer: &mut W) -> Result<(), Failure>
+/// Prints a line. One of a kind that is printed often is put together in the short line, and goes out as one piece.
+fn print<W: Write>(report: &Report, short: &mut ShortLine, writer: &mut W) -> Result<(), Failure>
     ensures printed { OnOk result (Appends (W.contents writer.old) (W.contents writer.new)
-        (report_text report ++ 10 ∷ [])) }
+        (report_text report.now ++ 10 ∷ [])) }
     ensures failed { IfErr result IsRunFailure }
 {
-    match short_line_of(&report) {
-        Some(line) => writer.write_all(line.as_bytes()).map_err(Failure::Output),
-        None => print_pieces(report, writer),
+    if short.fill(report) {
+        return writer.write_all(short.as_bytes()).map_err(Failure::Output);
     }
+    print_pieces(report, writer)
 }
 
 /// Prints a line, if there is one.
-pub fn print_some<W: Write>(report: Option<Report>, writer: &mut W) -> Result<(), Failure>
-    ensures printed { OnOk result (Appends (W.contents writer.old) (W.contents writer.new) (line report)) }
+pub fn print_some<W: Write>(
+    report: &Option<Report>,
+    short: &mut ShortLine,
+    writer: &mut W,
+) -> Result<(), Failure>
+    ensures printed { OnOk result (Appends (W.contents writer.old) (W.contents writer.new) (line report.now)) }
     ensures failed { IfErr result IsRunFailure }
 {
     match report {
-        Some(report) => print(report, writer),
+        Some(report) => print(report, short, writer),
         None => Ok(()),
     }
 }
 
 /// Prints the line of an observation, if it has one.
-fn print_note<W: Write>(alloc: Global, note: &Note, writer: &mut W) -> Result<(), Failure>
+fn print_note<W: Write>(
+    alloc: Global,
+    note: &Note,
+    short: &mut ShortLine,
+    writer: &mut W,
+) -> Result<(), Failure>
     ensures printed { OnOk result (Appends (W.contents writer.old) (W.contents writer.new) (line (observed note.now))) }
     ensures failed { IfErr result IsRunFailure }
 {
     let report = report_note(alloc, note)?;
-    print_some(report, writer)
+    print_some(&report, short, writer)
 }
 
 /// Prints the lines of what was observed.
-pub fn print_notes<W: Write>(alloc: Global, notes: &[Note], writer: &mut W) -> Result<(), Failure>
+fn print_notes<W: Write>(
+    alloc: Global,
+    notes: &[Note],
+    short: &mut ShortLine,
+    writer: &mut W,
+) -> Result<(), Failure>
     ensures printed { OnOk result (Appends (W.contents writer.old) (W.contents writer.new) (lines_of_notes notes.now)) }
     ensures failed { IfErr result IsRunFailure }
 {
     for note in notes {
-        print_note(alloc, note, writer)?;
+        print_note(alloc, note, short, writer)?;
     }
     Ok(())
 }
@@ -69,6 +83,7 @@ pub fn print_since<W: Write>(
     alloc: Global,
     notes: &[Note],
     shown: usize,
+    short: &mut ShortLine,
     writer: &mut W,
 ) -> Result<(), Failure>
     ensures printed { OnOk result (Appends (W.contents writer.old) (W.contents writer.new)
@@ -76,7 +91,7 @@ pub fn print_since<W: Write>(
     ensures failed { IfErr result IsRunFailure }
 {
     match notes.get(shown..) {
-        Some(more) => print_notes(alloc, more, writer),
+        Some(more) => print_notes(alloc, more, short, writer),
         None => Ok(()),
     }
 }

@@ -87,6 +87,6 @@ pub(crate) fn act_of(line: &Line) -> Act
         Line::Cut(actor) => Act::Cut { actor: *actor },
         Line::Heal(actor) => Act::Heal { actor: *actor },
         Line::Show { node, extent: _ } => Act::Show { node: *node },
-        Line::Happens(event) => act_of_event(event),
+        Line::Happens(event) => act_of_event(event.event()),
     }
 }

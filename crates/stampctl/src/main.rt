@@ -17,8 +17,9 @@
 //! The program reads its words, one file or the standard input, and writes lines to the standard output and texts about
 //! wrong words, about a line that cannot be read and about a file that cannot to the standard error; it touches nothing else. The disks of nodes, of the manager and of the map are in
 //! memory, and so is the network, so that a script always prints the same. The whole script is read and tested before its
-//! first event runs, and nothing is printed before it has ended: the output is kept in memory until then. Where it does not
-//! fit, the lines so far are printed, and 22 is told. A record file is opened for reading alone, and read whole before its first line.
+//! first event runs; then output leaves as it comes, whole lines at a time, of which at most 64 KiB are kept unless one line is
+//! longer. Where memory runs out, the lines so far are printed, and 22 is told. Where the output cannot be written, nothing more is
+//! printed. A record file is opened for reading alone, and read whole before its first line.
 //!
 //! # Statuses
 //!
@@ -38,9 +39,9 @@
 //! # What is proved of it
 //!
 //! `main` is the system's entry, and can have no contract of its own. What it calls has: `command` names the task that the
-//! words spell, exactly; `perform` answers the status; and what is printed is what `script_run::run_text` wrote into memory, which
+//! words spell, exactly; `perform` answers the status; and what is printed is what `script_run::run_text` wrote into a spool, which
 //! promises that it is what the lines of the text print, run in order over one run of `world`, and that the line which it names
-//! of a text that is no script is the first at which it is none. Of that run `world` promises
+//! of a text that is no script is the first at which it is none. The `spool` hands on all that it was given. Of that run `world` promises
 //! that what is observed of extents agrees and keeps each acknowledged append, and that what is observed of tables replays where
 //! no event merges ranges.
 //! docs/PROOFS.md leads from here to each part.

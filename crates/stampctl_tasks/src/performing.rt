@@ -4,14 +4,18 @@ ghost use Rattle.std.specs.Process.{exit_status};
 ghost use Rattle.clap.specs.Words.{kind_of};
 ghost use Rattle.clap.specs.declared.error.kind.ErrorKind.TheVariants.{DisplayHelp, DisplayVersion};
 ghost use Rattle.clap.specs.declared.error.Error.{Error};
+ghost use Rattle.spool.specs.Spool.{HasHandedOnLines, given};
+ghost use Rattle.script_run.specs.Script.{Writes};
+ghost use Rattle.record_dump.specs.Dump.{IsDumpOf};
+ghost use Rattle.stampctl_tasks.specs.Printed.{IsPrinted};
 ghost use Rattle.stampctl_words.specs.declared.named.CommandError.TheVariants.{Memory, WrongWords};
 
 use crate::escaped::Escaped;
-use memchr::memrchr;
 use record_dump::{BytesFault, dump_bytes};
 use script_drawing::Part;
 use script_lines::lines_of;
 use script_run::{Failure, run_text};
+use spool::LineSpool;
 use stampctl_words::{CommandError, Task};
 use std::alloc::Global;
 use std::fs;
@@ -87,25 +91,18 @@ fn tell_line<R: Eprint>(rt: &R, alloc: Global, text: &[u8], number: usize) {
     };
 }
 
-/// What was written, up to its last whole line. Where memory runs out within a line, the line's beginning is not printed.
-fn whole_lines(written: &[u8]) -> &[u8] {
-    match memrchr(b'\n', written) {
-        Some(last) => written.get(..last.saturating_add(1)).unwrap_or(written),
-        None => &[],
-    }
-}
-
-/// Prints the lines that a task wrote, and how it ended.
-fn finish<R: Print>(rt: &R, ended: Result<(), Refusal>, written: &[u8]) -> ExitCode
+/// Prints the whole lines that are left, and how a task ended. Where the output could not be written, nothing more is printed.
+fn finish<R: Print, W: Write + Drop>(
+    rt: &R,
+    ended: Result<(), Refusal>,
+    spool: &mut LineSpool<W>,
+) -> ExitCode
     ensures refused { IfErr ended (λ _. exit_status result ≡ 1) }
     ensures told { exit_status result < 2 }
+    ensures same { given spool.new ≡ given spool.old }
+    ensures printed { exit_status result ≡ 0 → HasHandedOnLines spool.new }
 {
-    let mut writer = io::writer(rt);
-    if writer
-        .write_all(whole_lines(written))
-        .and_then(|()| writer.flush())
-        .is_err()
-    {
+    if spool.flush().is_err() {
         return ExitCode::FAILURE;
     }
     match ended {
@@ -114,23 +111,25 @@ fn finish<R: Print>(rt: &R, ended: Result<(), Refusal>, written: &[u8]) -> ExitC
     }
 }
 
-/// Prints what a script wrote, and how it ended, and where it is none tells the line. A script that could write no more ended out
-/// of memory.
-fn end<R: Eprint + Print>(
+/// Prints what is left of what a script printed, and how it ended, and where it is none tells the line. A script that could print no
+/// more ended out of memory, unless the output could not be written.
+fn end<R: Eprint + Print, W: Write + Drop>(
     rt: &R,
     alloc: Global,
     text: &[u8],
     ended: Result<(), Failure>,
-    written: &[u8],
+    spool: &mut LineSpool<W>,
 ) -> ExitCode
     ensures refused { IfErr ended (λ _. exit_status result ≡ 1) }
     ensures told { exit_status result < 2 }
+    ensures same { given spool.new ≡ given spool.old }
+    ensures printed { exit_status result ≡ 0 → HasHandedOnLines spool.new }
 {
     match ended {
-        Ok(()) => finish(rt, Ok(()), written),
+        Ok(()) => finish(rt, Ok(()), spool),
         Err(failure) => {
             let refusal = failure.refusal().unwrap_or(Refusal::Memory);
-            let status = finish(rt, Err(refusal), written);
+            let status = finish(rt, Err(refusal), spool);
             if let Failure::BadScript(number) = failure {
                 tell_line(rt, alloc, text, number);
             }
@@ -139,7 +138,21 @@ fn end<R: Eprint + Print>(
     }
 }
 
-/// Runs the script over bytes in memory, so that what `run_text` promises is said of this very call.
+/// Runs the script of this text, and prints as it runs.
+fn print_run<R: Eprint + Print, W: Write + Drop>(
+    rt: &R,
+    alloc: Global,
+    text: &mut Vec<u8>,
+    spool: &mut LineSpool<W>,
+) -> ExitCode
+    ensures told { exit_status result < 2 }
+    ensures printed { exit_status result ≡ 0 → IsPrinted (Writes text.old.items) spool.old spool.new }
+{
+    let ended = run_text(alloc, text, spool);
+    end(rt, alloc, text.as_slice(), ended, spool)
+}
+
+/// Runs the script that is named.
 fn run<R: Eprint + Files + Input + Print>(rt: &R, alloc: Global, path: Option<&str>) -> ExitCode
     ensures { exit_status result < 2 }
 {
@@ -147,9 +160,10 @@ fn run<R: Eprint + Files + Input + Print>(rt: &R, alloc: Global, path: Option<&s
         Ok(text) => text,
         Err(error) => return unread(rt, path, error),
     };
-    let mut written = Vec::new(alloc);
-    let ended = run_text(alloc, &mut text, &mut written);
-    end(rt, alloc, &text, ended, &written)
+    match LineSpool::new(alloc, io::writer(rt)) {
+        Ok(mut spool) => print_run(rt, alloc, &mut text, &mut spool),
+        Err(_) => refused(rt, Refusal::Memory),
+    }
 }
 
 /// The events from one to another, which are the first and the last where none is named.
@@ -168,9 +182,12 @@ fn trace<R: Eprint + Files + Input + Print>(rt: &R, alloc: Global, path: Option<
         Ok(text) => text,
         Err(error) => return unread(rt, path, error),
     };
-    let mut written = Vec::new(alloc);
-    let ended = script_steps::trace(alloc, &text, &mut written);
-    end(rt, alloc, &text, ended, &written)
+    let mut spool = match LineSpool::new(alloc, io::writer(rt)) {
+        Ok(spool) => spool,
+        Err(_) => return refused(rt, Refusal::Memory),
+    };
+    let ended = script_steps::trace(alloc, &text, &mut spool);
+    end(rt, alloc, &text, ended, &mut spool)
 }
 
 /// Prints the drawing of a part of a script.
@@ -186,9 +203,12 @@ fn draw<R: Eprint + Files + Input + Print>(
         Ok(text) => text,
         Err(error) => return unread(rt, path, error),
     };
-    let mut written = Vec::new(alloc);
-    let ended = script_drawing::draw(alloc, &text, part, &mut written);
-    end(rt, alloc, &text, ended, &written)
+    let mut spool = match LineSpool::new(alloc, io::writer(rt)) {
+        Ok(spool) => spool,
+        Err(_) => return refused(rt, Refusal::Memory),
+    };
+    let ended = script_drawing::draw(alloc, &text, part, &mut spool);
+    end(rt, alloc, &text, ended, &mut spool)
 }
 
 /// The refusal that is told of bytes that were not dumped. Where a line found no room, memory ran out.
@@ -202,6 +222,23 @@ fn dump_refusal(fault: BytesFault) -> Refusal
     }
 }
 
+/// Prints the records of the record file that these bytes are.
+fn print_dump<R: Print, W: Write + Drop>(
+    rt: &R,
+    alloc: Global,
+    bytes: Vec<u8>,
+    spool: &mut LineSpool<W>,
+) -> ExitCode
+    ensures told { exit_status result < 2 }
+    ensures printed { exit_status result ≡ 0 → IsPrinted (IsDumpOf bytes.items) spool.old spool.new }
+{
+    let ended = match dump_bytes(alloc, bytes, spool) {
+        Ok(()) => Ok(()),
+        Err(fault) => Err(dump_refusal(fault)),
+    };
+    finish(rt, ended, spool)
+}
+
 /// Prints the records of a record file, which is opened for reading alone.
 fn dump<R: Eprint + Files + Input + Print>(rt: &R, alloc: Global, path: &str) -> ExitCode
     ensures { exit_status result < 2 }
@@ -210,9 +247,10 @@ fn dump<R: Eprint + Files + Input + Print>(rt: &R, alloc: Global, path: &str) ->
         Ok(bytes) => bytes,
         Err(error) => return unread(rt, Some(path), error),
     };
-    let mut written = Vec::new(alloc);
-    let ended = dump_bytes(alloc, bytes, &mut written).map_err(dump_refusal);
-    finish(rt, ended, &written)
+    match LineSpool::new(alloc, io::writer(rt)) {
+        Ok(mut spool) => print_dump(rt, alloc, bytes, &mut spool),
+        Err(_) => refused(rt, Refusal::Memory),
+    }
 }
 
 /// Performs a task, or tells why the words name none, and answers the status to end with. A script ends in 0 where it ran to

@@ -56,7 +56,22 @@ impl Cluster {
         })
     }
 
-    fn submit(
+    /// A user asks this. An error is out of memory (22), and nothing has changed.
+    pub(crate) fn submit(
+        &mut self,
+        user: u64,
+        to: ActorId,
+        body: Body,
+    ) -> Result<Option<Refusal>, WorldFault>
+        ensures none { IfOk result (λ refusal. refusal ≡ None) }
+        ensures ok { OnOk result (ClusterSimulates self.old self.new (events.Submit user to body)) }
+        ensures err { OnErr result (self.new ≡ self.old) }
+        ensures same_notes { self.new.stream_layer.notes ≡ self.old.stream_layer.notes }
+    {
+        self.stream_layer.submit(user, to, body)
+    }
+
+    fn submit_copy(
         &mut self,
         alloc: Global,
         user: u64,
@@ -67,7 +82,7 @@ impl Cluster {
         ensures ok { OnOk result (ClusterSimulates self.old self.new (events.Submit user to body.now)) }
         ensures err { OnErr result (self.new ≡ self.old) }
     {
-        self.stream_layer.submit(alloc, user, to, body)
+        self.stream_layer.submit_copy(alloc, user, to, body)
     }
 
     /// Whom the packet of a number is for; none where no packet has it.
@@ -136,7 +151,13 @@ impl Cluster {
         self.stream_layer.deliver(alloc, number)
     }
 
-    fn deliver(&mut self, alloc: Global, number: usize) -> Result<Option<Refusal>, WorldFault>
+    /// The packet of a number comes to whom it is for; nothing comes of a number that was never sent. An error is out of memory
+    /// (22), and nothing has changed.
+    pub(crate) fn deliver(
+        &mut self,
+        alloc: Global,
+        number: usize,
+    ) -> Result<Option<Refusal>, WorldFault>
         ensures none { IfOk result (λ refusal. refusal ≡ None) }
         ensures ok { OnOk result (ClusterSimulates self.old self.new (events.Deliver number)) }
         ensures err { OnErr result (self.new ≡ self.old) }
@@ -293,7 +314,7 @@ impl Cluster {
         ensures refusal { IfOk result (λ refusal. refusal ≡ refusal_of self.old event.now) }
     {
         match event {
-            Event::Submit { user, to, body } => self.submit(alloc, *user, *to, body),
+            Event::Submit { user, to, body } => self.submit_copy(alloc, *user, *to, body),
             Event::Deliver { number } => self.deliver(alloc, *number),
             Event::Stop { actor, call, keep } => {
                 self.stop(*actor, *call, *keep);

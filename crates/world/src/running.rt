@@ -1,5 +1,6 @@
 //! A run: a cluster that events brought to where it is.
-ghost use Rattle.std.specs.Prelude.{◌≡◌, IfOk, OnOk, OnErr, option_map};
+ghost use Rattle.std.specs.Prelude.{◌≡◌, IfOk, None, OnOk, OnErr, option_map};
+ghost use Rattle.model_streams.specs.declared.event.Event.TheVariants as events;
 ghost use Rattle.model_streams.specs.Honest.{Agree, Kept};
 ghost use Rattle.model_partition.specs.Cluster.{first_cluster};
 ghost use Rattle.model_partition.specs.Honest.{Honest};
@@ -14,7 +15,7 @@ use enode::Node;
 use model_streams::Event;
 use std::alloc::Global;
 use std::marker::Model;
-use wire::{Note, Packet, Refusal};
+use wire::{ActorId, Body, Note, Packet, Refusal};
 use world_streams::{Setup, WorldFault};
 
 /// A cluster that events made. At each moment it is what the model makes of some list of events, from the start of some
@@ -76,6 +77,35 @@ impl Run {
     {
         let refusal = self.advance(alloc, event)?;
         Ok(refusal.map(|refusal| refusal.number()))
+    }
+
+    /// One event more: the packet of a number, from 0, comes to whom it is for. Nothing comes of a number that was never sent. It is
+    /// what `advance` makes of that event, which is never refused. An error is out of memory (22), and nothing has changed then.
+    pub fn deliver(&mut self, alloc: Global, number: usize) -> Result<Option<Refusal>, WorldFault>
+        ensures ok { OnOk result (ClusterSimulates self.old self.new (events.Deliver number)) }
+        ensures err { OnErr result (self.new ≡ self.old) }
+        ensures refusal { IfOk result (λ refusal. refusal ≡ refusal_of self.old (events.Deliver number)) }
+        ensures none { IfOk result (λ refusal. refusal ≡ None) }
+    {
+        self.cluster.deliver(alloc, number)
+    }
+
+    /// One event more: a user asks an actor this, which becomes the next packet, and nothing is observed of it. Nothing comes of a
+    /// body that users may not ask. It is what `advance` makes of that event, which is never refused. An error is out of memory
+    /// (22), and nothing has changed then.
+    pub fn submit(
+        &mut self,
+        user: u64,
+        to: ActorId,
+        body: Body,
+    ) -> Result<Option<Refusal>, WorldFault>
+        ensures ok { OnOk result (ClusterSimulates self.old self.new (events.Submit user to body)) }
+        ensures err { OnErr result (self.new ≡ self.old) }
+        ensures refusal { IfOk result (λ refusal. refusal ≡ refusal_of self.old (events.Submit user to body)) }
+        ensures same_notes { self.new.stream_layer.notes ≡ self.old.stream_layer.notes }
+        ensures none { IfOk result (λ refusal. refusal ≡ None) }
+    {
+        self.cluster.submit(user, to, body)
     }
 
     /// All packets that were sent, in order: their places, from 0, are their numbers.

@@ -10,10 +10,12 @@
 //! - `rows_of`: the rows of a table, which is its memory table over the pages of its indexes, the oldest index first. Each page,
 //!   and each value that stands elsewhere, is taken from the earliest observation that covers its place. Only observations of
 //!   its extent are looked at: `SeenByExtent` has their places.
+//!   Lists whose keys ascend are merged in one walk, and with no index the memory table is read as it is.
 //!
 //! An error is out of memory (22), and nothing has changed; that is the one error that no clause limits.
 #![tactic(auto)]
 
+mod ascending_run;
 mod list;
 mod place;
 mod rows;

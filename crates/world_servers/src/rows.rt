@@ -1,5 +1,6 @@
 //! The rows of a table.
-ghost use Rattle.std.specs.Prelude.{◌≡◌, ◌++◌, IfOk, OnOk};
+ghost use Rattle.std.specs.Prelude.{◌≡◌, ◌++◌, [], IfOk, OnOk};
+ghost use Rattle.memtable.specs.Entries.{put_all};
 ghost use Rattle.model_partition.specs.Servers.{row_of, rows_in, rows_of, table_of_view};
 ghost use Rattle.world_servers.specs.Seen.{IsIndex};
 
@@ -44,13 +45,31 @@ fn rows_in(
     alloc: Global,
     notes: &[Note],
     seen: &SeenByExtent,
-    entries: &BTreeMap<Bytes, Cell>,
+    entries: &[(Bytes, Cell)],
 ) -> Result<Rows, AllocError>
     requires { IsIndex notes.now seen.now }
-    ensures { IfOk result (λ rows. rows ≡ rows_in notes.now entries.now.entries) }
+    ensures { IfOk result (λ rows. rows ≡ rows_in notes.now entries.now) }
 {
-    let mut rows = Vec::new(alloc);
-    for (key, cell) in entries {
+    let mut rows = Vec::with_capacity(alloc, entries.len())?;
+    for entry in entries {
+        push_row(alloc, &mut rows, notes, seen, &entry.0, &entry.1)?;
+    }
+    Ok(Rows { items: rows })
+}
+
+/// The rows of a memory table over no index.
+#[tactic(auto, using(crate::proofs::RowEntries::one_more))]
+fn live_rows(
+    alloc: Global,
+    notes: &[Note],
+    seen: &SeenByExtent,
+    live: &BTreeMap<Bytes, Cell>,
+) -> Result<Rows, AllocError>
+    requires { IsIndex notes.now seen.now }
+    ensures { IfOk result (λ rows. rows ≡ rows_in notes.now (put_all [] live.now.entries)) }
+{
+    let mut rows = Vec::with_capacity(alloc, live.len())?;
+    for (key, cell) in live {
         push_row(alloc, &mut rows, notes, seen, key, cell)?;
     }
     Ok(Rows { items: rows })
@@ -68,6 +87,9 @@ pub fn rows_of(
     requires { IsIndex notes.now seen.now }
     ensures { IfOk result (λ rows. rows ≡ rows_of notes.now (table_of_view table.now)) }
 {
+    if table.indexes.as_slice().is_empty() {
+        return live_rows(alloc, notes, seen, table.live);
+    }
     let entries = entries_shown(alloc, notes, seen, table)?;
-    rows_in(alloc, notes, seen, &entries)
+    rows_in(alloc, notes, seen, entries.as_slice())
 }

@@ -8,7 +8,7 @@ use wire::{
     AppendBody, Body, CheckBody, Modify, ReadBody, SealBody, Source, StreamBody, StreamKind,
 };
 
-fn is_append(body: &AppendBody) -> bool
+pub(crate) fn is_append(body: &AppendBody) -> bool
     ensures { result ≡ is_append body.now }
 {
     match body {
@@ -26,7 +26,7 @@ fn is_check(body: &CheckBody) -> bool
     }
 }
 
-fn is_seal(body: &SealBody) -> bool
+pub(crate) fn is_seal(body: &SealBody) -> bool
     ensures { result ≡ is_seal body.now }
 {
     match body {
@@ -35,7 +35,7 @@ fn is_seal(body: &SealBody) -> bool
     }
 }
 
-fn is_read(body: &ReadBody) -> bool
+pub(crate) fn is_read(body: &ReadBody) -> bool
     ensures { result ≡ is_read body.now }
 {
     match body {

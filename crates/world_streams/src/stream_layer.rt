@@ -24,7 +24,7 @@ use crate::observations::Observations;
 use crate::post::{make_room, move_in};
 use crate::setup::Setup;
 use crate::showing::{Given, give, show};
-use crate::submitting::request;
+use crate::submitting::{is_request, request};
 use block_types::Nodes;
 use bytes::Bytes;
 use disk::MemDisk;
@@ -102,9 +102,29 @@ impl StreamLayer {
         })
     }
 
-    /// A user asks something. Nothing comes of a body that users may not ask. An error is out of memory (22), and nothing has
-    /// changed.
+    /// A user asks something, and nothing is observed of it. Nothing comes of a body that users may not ask. An error is out of
+    /// memory (22), and nothing has changed.
     pub fn submit(
+        &mut self,
+        user: u64,
+        to: ActorId,
+        body: Body,
+    ) -> Result<Option<Refusal>, WorldFault>
+        ensures none { IfOk result (λ refusal. refusal ≡ None) }
+        ensures ok { OnOk result ((w : StreamSystem) → StreamLayerMirrors self.old w → StreamLayerMirrors self.new (happens w (events.Submit user to body))) }
+        ensures err { OnErr result (self.new ≡ self.old) }
+        ensures same_notes { self.new.notes ≡ self.old.notes }
+    {
+        if !is_request(&body) {
+            return Ok(None);
+        }
+        self.send(ActorId::User(user), to, body)?;
+        Ok(None)
+    }
+
+    /// A user asks the same as this body, which shares its payload and stays. Nothing comes of a body that users may not ask. An
+    /// error is out of memory (22), and nothing has changed.
+    pub fn submit_copy(
         &mut self,
         alloc: Global,
         user: u64,
@@ -140,6 +160,7 @@ impl StreamLayer {
     fn send(&mut self, from: ActorId, to: ActorId, body: Body) -> Result<(), WorldFault>
         ensures ok { OnOk result (self.new ≡ record self.old { post = self.old.post ++ packet from to body ∷ [] }) }
         ensures err { OnErr result (self.new ≡ self.old) }
+        ensures same_notes { self.new.notes ≡ self.old.notes }
     {
         self.post.push(Packet { from, to, body })?;
         Ok(())
@@ -226,7 +247,7 @@ impl StreamLayer {
         ensures refusal { IfOk result (λ refusal. refusal ≡ refusal_of self.old event.now) }
     {
         match event {
-            Event::Submit { user, to, body } => self.submit(alloc, *user, *to, body),
+            Event::Submit { user, to, body } => self.submit_copy(alloc, *user, *to, body),
             Event::Deliver { number } => self.deliver(alloc, *number),
             Event::Stop { actor, call, keep } => {
                 self.stop(*actor, *call, *keep);

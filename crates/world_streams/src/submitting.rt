@@ -1,10 +1,55 @@
-//! What users may ask: the packet that a submission sends.
+//! What users may ask, and the copy of a request.
 ghost use Rattle.std.specs.Prelude.{◌≡◌, Some, None, IfOk, if◌then◌else◌};
 ghost use Rattle.wire.specs.declared.body.Body.TheVariants as bodies;
 ghost use Rattle.model_streams.specs.StreamSystem.{is_request, is_append, is_seal, is_read, is_stream_call, is_route, is_table_call};
 
+use crate::calls::{is_append, is_read, is_seal};
 use std::alloc::{AllocError, Global};
 use wire::{AppendBody, Body, MapBody, ReadBody, SealBody, StreamBody, TableBody};
+
+fn is_stream_call(body: &StreamBody) -> bool
+    ensures { result ≡ is_stream_call body.now }
+{
+    match body {
+        StreamBody::CreateStream { .. } => true,
+        StreamBody::Extend { .. } => true,
+        _ => false,
+    }
+}
+
+fn is_route(body: &MapBody) -> bool
+    ensures { result ≡ is_route body.now }
+{
+    match body {
+        MapBody::Route { .. } => true,
+        _ => false,
+    }
+}
+
+fn is_table_call(body: &TableBody) -> bool
+    ensures { result ≡ is_table_call body.now }
+{
+    match body {
+        TableBody::Transact { .. } => true,
+        TableBody::Get { .. } => true,
+        _ => false,
+    }
+}
+
+/// Whether a user may ask this.
+pub(crate) fn is_request(body: &Body) -> bool
+    ensures { result ≡ is_request body.now }
+{
+    match body {
+        Body::Append(body) => is_append(body),
+        Body::Check(_body) => false,
+        Body::Seal(body) => is_seal(body),
+        Body::Read(body) => is_read(body),
+        Body::Stream(body) => is_stream_call(body),
+        Body::Map(body) => is_route(body),
+        Body::Table(body) => is_table_call(body),
+    }
+}
 
 fn append(alloc: Global, body: &AppendBody) -> Result<Option<Body>, AllocError>
     ensures { IfOk result (λ copy. copy ≡ (if is_append body.now then Some (bodies.Append body.now) else None)) }

@@ -1,16 +1,13 @@
-use Rattle.std.proofs.Common.{◌≡◌, ◌∙◌, ◌≤◌, ℕ, List, Option, Some, None, IfSome, sym, subst, codes}
+use Rattle.std.proofs.Common.{◌≡◌, ◌∙◌, ◌≤◌, ℕ, List, append-nil, codes, subst, sym}
 use Rattle.std.specs.List.{repeat}
 use Rattle.std.specs.Str.Parse.{digits_value}
-use Rattle.std.proofs.lemmas.Result.{IfOk-weaker}
-use Rattle.std.proofs.lemmas.Slice.Eq.{bytes_eq-Decides}
 use Rattle.std.proofs.lemmas.Bool.{true≢false}
+use Rattle.std.proofs.lemmas.Option.{IfSome_then}
+use Rattle.std.proofs.lemmas.Slice.Eq.{bytes_eq-Decides}
+use Rattle.script_lines.specs.Copies.{bytes_of}
 use Rattle.script_lines.specs.Limits.{most_copies}
 use Rattle.script_lines.specs.Values.{AsksCopies, IsValue, after_star, before_star, copies, itself, nothing}
 use Rattle.script_lines.proofs.spelling.value.Goals as goal
-
-some_weaker : {X : Type 0} (o : Option X) (P Q : X → Type 0) → ((x : X) → P x → Q x) → IfSome o P → IfSome o Q
-some_weaker None P Q f h = tt
-some_weaker (Some x) P Q f h = f x h
 
 copied : (word count part bytes : List ℕ) → AsksCopies word → count ≡ before_star word → part ≡ after_star word
     → digits_value 10 count ≤ most_copies → bytes ≡ repeat (digits_value 10 count) part → IsValue word bytes
@@ -21,18 +18,15 @@ copied word count part bytes asks before after few items =
 pub returns-in-Some-clause-found : goal.returns-in-Some-clause-found
 returns-in-Some-clause-found c =
     let found = c.in-Some.ensures.found in
-    IfOk-weaker c.repeated.result _ _
-    (λ value some. some_weaker value _ _
-    (λ bytes made. copied c.args.word.now c.in-Some.count.now c.in-Some.copied.now bytes.items found.0 found.1 found.2 made.0 made.1) some)
-    c.repeated.ensures.found
+    IfSome_then c.repeated.result c.repeated.ensures.found
+    (λ value made. copied c.args.word.now c.in-Some.count.now c.in-Some.copied.now (bytes_of value) found.0 found.1 found.2 made.0 made.1)
 
 pub returns-then-eq-clause-found : goal.returns-then-eq-clause-found
 returns-then-eq-clause-found c =
-    let word : List ℕ = c.args.word.now in
-    subst (IsValue word) (sym c.new.ensures.items) (nothing ((bytes_eq-Decides word (codes "-")).0 (sym c.eq.ensures ∙ c.if-eq.true)))
+    let word : List ℕ = c.args.word.now in nothing ((bytes_eq-Decides word (codes "-")).0 (sym c.eq.ensures ∙ c.if-eq.true))
 
-pub returns-in-Ok-clause-found : goal.returns-in-Ok-clause-found
-returns-in-Ok-clause-found c =
+pub returns-clause-found : goal.returns-clause-found
+returns-clause-found c =
     let word : List ℕ = c.args.word.now in
     let other : IsValue word word = itself c.in_default.ensures.none (λ e. true≢false (sym ((bytes_eq-Decides word (codes "-")).1 e) ∙ sym c.eq.ensures ∙ c.if-eq.false)) in
-    subst (IsValue word) (sym (c.in-Ok.ensures.items ∙ c.as_bytes.ensures.value)) other
+    subst (IsValue word) (sym (append-nil word)) other

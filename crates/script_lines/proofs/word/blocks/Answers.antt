@@ -1,15 +1,14 @@
-use Rattle.std.proofs.Common.{arith}
+use Rattle.std.proofs.Common.{◌∙◌, ℕ, List, ap, map, subst, sym}
+use Rattle.script_lines.specs.Copies.{bytes_of}
+use Rattle.script_lines.specs.Sequences.{each}
 use Rattle.script_lines.specs.Values.{IsValue}
-use Rattle.script_lines.proofs.Lists.{each_step, each_stop}
+use Rattle.script_lines.proofs.Copying.{each_piece}
+use Rattle.script_lines.proofs.Lists.{texts}
 use Rattle.script_lines.proofs.word.blocks.Goals as goal
 
-pub returns-in-None : goal.returns-in-None
-returns-in-None c = λ list spelled.
-    each_stop (λ bytes text. IsValue text bytes) c.args.words.now c.loop-word.word-index _ (omega arith)
-    (rw c.in-None.is at c.in_ok-block.ensures) list.items spelled
-
-pub loop-word-preserved : goal.loop-word-preserved
-loop-word-preserved c =
-    rw c.in_ok-push-in-Some.ensures.items
-    (each_step (λ bytes text. IsValue text bytes) c.loop-word.blocks.items c.args.words.now c.loop-word.word-index _ c.in-Some.block (omega arith)
-    c.loop-word.invariant (rw c.in-Some.is at c.in_ok-block.ensures))
+pub returns-in_ok-spelled_out-in-Some : goal.returns-in_ok-spelled_out-in-Some
+returns-in_ok-spelled_out-in-Some c =
+    let words : List (List ℕ) = texts c.args.words.now in
+    let pieces = c.in_ok-spelled_out-in-Some.ensures ∙ ap (map bytes_of) c.as_slice.ensures.value in
+    subst (λ (blocks : List (List ℕ)). each (λ bytes text. IsValue text bytes) blocks words) (sym pieces)
+    (each_piece (λ bytes text. IsValue text bytes) c.in-Some.values.items words (rw c.in-Some.is at c.in_ok-values.ensures.found))

@@ -1,6 +1,6 @@
-use Rattle.std.proofs.Common.{◌≡◌, ◌++◌}
+use Rattle.std.proofs.Common.{◌≡◌, ◌++◌, drop}
 use Rattle.model_partition.specs.Servers.{rows_in}
 use Rattle.world_servers.proofs.rows.rows_in.Given as goal
 
-abbrev pub invariant-loop-key : goal.invariant-loop-key
-invariant-loop-key l = l.rows.items ++ rows_in l.fn.notes l.key-iterator ≡ rows_in l.fn.notes l.fn.entries.entries
+abbrev pub invariant-loop-entry : goal.invariant-loop-entry
+invariant-loop-entry l = l.rows.items ++ rows_in l.fn.notes (drop l.entry-index l.entries) ≡ rows_in l.fn.notes l.entries

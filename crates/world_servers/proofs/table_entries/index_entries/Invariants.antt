@@ -5,4 +5,4 @@ use Rattle.model_partition.specs.Servers.{index_shown}
 use Rattle.world_servers.proofs.table_entries.index_entries.Given as goal
 
 abbrev pub invariant-loop-at : goal.invariant-loop-at
-invariant-loop-at l = l.entries.entries ≡ merged l.fn.keys (map (index_shown l.fn.notes) (drop l.at l.fn.indexes))
+invariant-loop-at l = l.entries ≡ merged l.fn.keys (map (index_shown l.fn.notes) (drop l.at l.fn.indexes))

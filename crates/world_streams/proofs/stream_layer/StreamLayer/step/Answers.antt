@@ -5,7 +5,7 @@ use Rattle.world_streams.specs.StreamLayer.{StreamLayerMirrors}
 use Rattle.world_streams.proofs.stream_layer.StreamLayer.step.Goals as goal
 
 pub returns-in-Submit-clause-ok : goal.returns-in-Submit-clause-ok
-returns-in-Submit-clause-ok c = subst (λ (event : Event). OnOk c.submit.result ((w : StreamSystem) → StreamLayerMirrors c.args.self.now w → StreamLayerMirrors c.submit.new.self (happens w event))) (sym c.in-Submit.is) c.submit.ensures.ok
+returns-in-Submit-clause-ok c = subst (λ (event : Event). OnOk c.submit_copy.result ((w : StreamSystem) → StreamLayerMirrors c.args.self.now w → StreamLayerMirrors c.submit_copy.new.self (happens w event))) (sym c.in-Submit.is) c.submit_copy.ensures.ok
 
 pub returns-in-Deliver-clause-ok : goal.returns-in-Deliver-clause-ok
 returns-in-Deliver-clause-ok c = subst (λ (event : Event). OnOk c.deliver.result ((w : StreamSystem) → StreamLayerMirrors c.args.self.now w → StreamLayerMirrors c.deliver.new.self (happens w event))) (sym c.in-Deliver.is) c.deliver.ensures.ok

@@ -1,0 +1,7 @@
+use Rattle.std.proofs.Common.{◌≡◌, take}
+use Rattle.std.specs.List.{flat_map}
+use Rattle.script_lines.specs.Copies.{bytes_of}
+use Rattle.script_lines.proofs.copies.joined.Given as goal
+
+abbrev pub invariant-loop-part : goal.invariant-loop-part
+invariant-loop-part l = l.buffer.items ≡ flat_map bytes_of (take l.part-index l.parts)

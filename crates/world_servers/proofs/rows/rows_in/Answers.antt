@@ -1,6 +1,0 @@
-use Rattle.std.proofs.Common.{arith}
-use Rattle.std.proofs.lemmas.Grind.{common_steps}
-use Rattle.world_servers.proofs.rows.rows_in.Goals as goal
-
-pub loop-key-preserved : goal.loop-key-preserved
-loop-key-preserved c = grind (arith, common_steps)

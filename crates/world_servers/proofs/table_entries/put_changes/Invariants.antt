@@ -1,7 +1,0 @@
-use Rattle.std.proofs.Common.{◌≡◌}
-use Rattle.std.specs.Vec.Iter.{into_iter_items}
-use Rattle.memtable.specs.Entries.{put_all}
-use Rattle.world_servers.proofs.table_entries.put_changes.Given as goal
-
-abbrev pub invariant-loop-key : goal.invariant-loop-key
-invariant-loop-key l = put_all l.entries.entries (into_iter_items l.key-iterator) ≡ put_all l.fn.entries.entries l.fn.changes.items
