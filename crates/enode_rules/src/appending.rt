@@ -36,7 +36,7 @@ fn append_refusal(
     if generation_of(packet.from, fence) < hosted.replica().fence() {
         return Some(Refusal::Stale);
     }
-    let count = blocks.items.len();
+    let count = blocks.as_slice().len();
     if count == 0 || count > usize::from(MAX_BLOCKS) {
         return Some(Refusal::TooManyBlocks);
     }
@@ -90,9 +90,11 @@ fn append_taken<D: Disk>(
     requires room { text_length hosted.old.content.groups < hosted.old.content.target }
     ensures { ReplicaPerforms D.state hosted.old hosted.new file.old file.new (append_taken node hosted.old packet.now extent blocks.now request) result }
 {
+    // One list for the packets, the record and what waits.
+    let group = blocks.group()?;
     let replica = hosted.replica();
-    let step = puts_of(alloc, node, replica.places(), extent, replica.len(), blocks)?;
-    match hosted.append(alloc, file, extent, blocks, packet.from, request) {
+    let step = puts_of(alloc, node, replica.places(), extent, replica.len(), &group)?;
+    match hosted.append(alloc, file, extent, group, packet.from, request) {
         Ok(()) => Ok(step),
         Err(fault) => Err(fault),
     }

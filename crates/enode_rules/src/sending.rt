@@ -8,13 +8,11 @@ ghost use Rattle.wire.specs.declared.body.Body.TheVariants as bodies;
 ghost use Rattle.model_streams.specs.Outcome.{packet as sent};
 ghost use Rattle.model_streams.specs.Node.{acked, answers, puts, to_manager};
 
-use block_types::Nodes;
+use block_types::{Group, Nodes};
 use disk::DiskFault;
 use model_streams::WaitingAppend;
 use std::alloc::Global;
-use wire::{
-    ActorId, AppendBody, Blocks, Body, ExtentId, Note, Packet, Refusal, ReqNo, SealBody, Step,
-};
+use wire::{ActorId, AppendBody, Body, ExtentId, Note, Packet, Refusal, ReqNo, SealBody, Step};
 
 /// One packet of a node and no observation.
 pub(crate) fn one(alloc: Global, from: u8, to: ActorId, body: Body) -> Result<Step, DiskFault>
@@ -119,13 +117,12 @@ pub fn refuse(
     one(alloc, from, to, body)
 }
 
-/// A Put of a group that shares its bytes.
-fn put_of(alloc: Global, extent: ExtentId, offset: u32, blocks: &Blocks) -> Result<Body, DiskFault>
-    requires { IsGroup blocks.now }
-    ensures body { IfOk result (λ body. body ≡ bodies.Append (Put extent offset blocks.now)) }
+/// A Put of a group, whose list it shares.
+fn put_of(extent: ExtentId, offset: u32, group: &Group) -> Result<Body, DiskFault>
+    ensures body { IfOk result (λ body. body ≡ bodies.Append (Put extent offset group.now)) }
     ensures fault { IfErr result (λ e. e ≡ faults.Memory) }
 {
-    let group = blocks.group(alloc)?;
+    let group = group.copy()?;
     Ok(Body::Append(AppendBody::Put {
         extent,
         offset,
@@ -135,20 +132,18 @@ fn put_of(alloc: Global, extent: ExtentId, offset: u32, blocks: &Blocks) -> Resu
 
 /// Adds a Put to a secondary.
 fn add_put(
-    alloc: Global,
     step: &mut Step,
     node: u8,
     to: u8,
     extent: ExtentId,
     offset: u32,
-    blocks: &Blocks,
+    group: &Group,
 ) -> Result<(), DiskFault>
-    requires { IsGroup blocks.now }
-    ensures packets { OnOk result (step.new.packets ≡ step.old.packets ++ sent (Node node) (Node to) (bodies.Append (Put extent offset blocks.now)) ∷ []) }
+    ensures packets { OnOk result (step.new.packets ≡ step.old.packets ++ sent (Node node) (Node to) (bodies.Append (Put extent offset group.now)) ∷ []) }
     ensures notes { OnOk result (step.new.notes ≡ step.old.notes) }
     ensures fault { IfErr result (λ e. e ≡ faults.Memory) }
 {
-    let body = put_of(alloc, extent, offset, blocks)?;
+    let body = put_of(extent, offset, group)?;
     step.packets.push(Packet {
         from: ActorId::Node(node),
         to: ActorId::Node(to),
@@ -164,23 +159,14 @@ pub(crate) fn puts_of(
     places: Nodes,
     extent: ExtentId,
     offset: u32,
-    blocks: &Blocks,
+    group: &Group,
 ) -> Result<Step, DiskFault>
-    requires { IsGroup blocks.now }
-    ensures packets { IfOk result (λ step. step.packets ≡ puts node places extent offset blocks.now) }
+    ensures packets { IfOk result (λ step. step.packets ≡ puts node places extent offset group.now) }
     ensures notes { IfOk result (λ step. step.notes ≡ []) }
     ensures fault { IfErr result (λ e. e ≡ faults.Memory) }
 {
     let mut step = Step::silent(alloc);
-    add_put(
-        alloc,
-        &mut step,
-        node,
-        places.second,
-        extent,
-        offset,
-        blocks,
-    )?;
-    add_put(alloc, &mut step, node, places.third, extent, offset, blocks)?;
+    add_put(&mut step, node, places.second, extent, offset, group)?;
+    add_put(&mut step, node, places.third, extent, offset, group)?;
     Ok(step)
 }

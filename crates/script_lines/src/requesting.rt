@@ -10,6 +10,7 @@ use crate::verb::{Wish, wish_of};
 use crate::word::{blocks, changes, kind, last, node, numbers, place, server};
 use block_types::Nodes;
 use std::alloc::{AllocError, Global};
+use wire::Blocks;
 
 /// What a user asks by these words.
 pub fn request(alloc: Global, words: &[&str]) -> Result<Option<Request>, AllocError>
@@ -121,7 +122,7 @@ fn append(alloc: Global, words: &[&str]) -> Result<Option<Request>, AllocError>
         Some(blocks) => Ok(Some(Request::Append {
             node: node(at),
             extent,
-            blocks,
+            blocks: Blocks::of(blocks)?,
         })),
         None => Ok(None),
     }
