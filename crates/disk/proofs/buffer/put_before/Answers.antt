@@ -1,6 +1,6 @@
 use Rattle.std.proofs.Common.{arith}
-use Rattle.disk.proofs.Aside.{put_in_front}
-use Rattle.disk.proofs.image.put_before.Goals as goal
+use Rattle.disk.proofs.Undoing.{put_in_front}
+use Rattle.disk.proofs.buffer.put_before.Goals as goal
 
 pub returns-then-count-gt0-clause-ok : goal.returns-then-count-gt0-clause-ok
 returns-then-count-gt0-clause-ok c =
