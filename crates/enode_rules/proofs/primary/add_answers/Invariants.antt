@@ -1,6 +1,6 @@
 use Rattle.std.proofs.Common.{◌≡◌, take}
 use Rattle.model_streams.specs.Node.{acked, answers}
-use Rattle.enode_rules.proofs.primary.answers_of.Given as goal
+use Rattle.enode_rules.proofs.primary.add_answers.Given as goal
 
 abbrev pub invariant-loop-index : goal.invariant-loop-index
 invariant-loop-index l = record {

@@ -4,7 +4,7 @@ use Rattle.std.proofs.lemmas.Option.{get_or_from_slice_get, slice_get_within}
 use Rattle.wire.specs.declared.note.Note.{Note}
 use Rattle.wire.specs.declared.packet.Packet.{Packet}
 use Rattle.model_streams.specs.Node.{acked, answers}
-use Rattle.enode_rules.proofs.primary.answers_of.Goals as goal
+use Rattle.enode_rules.proofs.primary.add_answers.Goals as goal
 
 pub loop-index-preserved : goal.loop-index-preserved
 loop-index-preserved c =
