@@ -1,8 +1,8 @@
 //! A line of a script, as a value.
+use crate::boxed_event::BoxedEvent;
 use block_types::Nodes;
 use bytes::Bytes;
-use model_streams::Event;
-use wire::{ActorId, Blocks, Changes, ServerNo, StreamKind};
+use wire::{ActorId, Changes, ServerNo, StreamKind};
 
 /// What a user asks for.
 #[derive(Drop)]
@@ -21,7 +21,7 @@ pub enum Request {
     Append {
         node: u8,
         extent: u64,
-        blocks: Blocks,
+        blocks: Vec<Bytes>,
     },
     /// So many bytes of a replica, from an offset on.
     Read {
@@ -76,5 +76,5 @@ pub enum Line {
     /// Shows the replica of an extent at a node.
     Show { node: u8, extent: u64 },
     /// An actor stops or comes back, the operator has something done, or the clock shows a moment.
-    Happens(Event),
+    Happens(BoxedEvent),
 }
