@@ -14,7 +14,6 @@ mod fault;
 mod job;
 mod known;
 mod load;
-mod pending;
 mod replies;
 mod sending;
 

@@ -1,3 +1,2 @@
-pub mod KeptStep
 pub mod Performs
 pub mod Sealing

@@ -1,8 +1,7 @@
 //! A replica at its primary: what the secondaries have, and the appends that are answered then.
-ghost use Rattle.std.specs.Prelude.{◌≡◌, ◌≤◌, take, OnOk, IfErr, length};
+ghost use Rattle.std.specs.Prelude.{◌≡◌, ◌≤◌, take, IfOk, IfErr, length};
 ghost use Rattle.disk.specs.declared.device.DiskFault.TheVariants as faults;
 ghost use Rattle.model_streams.specs.Node.{acked, answered, answers, greater, lesser, have_rule};
-ghost use Rattle.enode_rules.specs.KeptStep.{empty_step, told};
 ghost use Rattle.enode_rules.specs.Performs.{ReplicaPerformsInMemory};
 
 use crate::actors::is_node;
@@ -13,24 +12,23 @@ use std::alloc::Global;
 use wire::{ExtentId, Packet, Step};
 
 /// The answers to the first waiting appends, and that they are acknowledged.
-fn add_answers(
+fn answers_of(
     alloc: Global,
     node: u8,
     extent: ExtentId,
     waiting: &Waiting,
     count: usize,
-    step: &mut Step,
-) -> Result<(), DiskFault>
-    requires count { count ≤ length waiting.now }
-    requires empty { step.old ≡ empty_step }
-    ensures packets { OnOk result (step.new.packets ≡ answers node extent (take count waiting.now)) }
-    ensures notes { OnOk result (step.new.notes ≡ acked extent (take count waiting.now)) }
+) -> Result<Step, DiskFault>
+    requires { count ≤ length waiting.now }
+    ensures packets { IfOk result (λ step. step.packets ≡ answers node extent (take count waiting.now)) }
+    ensures notes { IfOk result (λ step. step.notes ≡ acked extent (take count waiting.now)) }
     ensures fault { IfErr result (λ e. e ≡ faults.Memory) }
 {
+    let mut step = Step::silent(alloc);
     for index in 0..count {
-        answer(alloc, step, node, extent, waiting.get(index))?;
+        answer(alloc, &mut step, node, extent, waiting.get(index))?;
     }
-    Ok(())
+    Ok(step)
 }
 
 /// The longer of two lengths.
@@ -55,17 +53,15 @@ pub(crate) fn have(
     packet: &Packet,
     extent: ExtentId,
     length: u32,
-    step: &mut Step,
-) -> Result<(), DiskFault>
-    requires { step.old ≡ empty_step }
-    ensures { ReplicaPerformsInMemory hosted.old hosted.new (have_rule node hosted.old packet.now extent length) (told result step.new) }
+) -> Result<Step, DiskFault>
+    ensures { ReplicaPerformsInMemory hosted.old hosted.new (have_rule node hosted.old packet.now extent length) result }
 {
     let places = hosted.replica().places();
     if node != places.primary {
-        return Ok(());
+        return Ok(Step::silent(alloc));
     }
     if !is_open(hosted.replica().state()) {
-        return Ok(());
+        return Ok(Step::silent(alloc));
     }
     if is_node(places.second, packet.from) {
         return told(
@@ -75,7 +71,6 @@ pub(crate) fn have(
             extent,
             greater(hosted.second_has, length),
             hosted.third_has,
-            step,
         );
     }
     if is_node(places.third, packet.from) {
@@ -86,10 +81,9 @@ pub(crate) fn have(
             extent,
             hosted.second_has,
             greater(hosted.third_has, length),
-            step,
         );
     }
-    Ok(())
+    Ok(Step::silent(alloc))
 }
 
 /// Answers what both secondaries have, where they have so much.
@@ -100,16 +94,14 @@ fn told(
     extent: ExtentId,
     second_has: u32,
     third_has: u32,
-    step: &mut Step,
-) -> Result<(), DiskFault>
-    requires { step.old ≡ empty_step }
-    ensures { ReplicaPerformsInMemory hosted.old hosted.new (answered node (record hosted.old { second_has = second_has; third_has = third_has }) extent) (told result step.new) }
+) -> Result<Step, DiskFault>
+    ensures { ReplicaPerformsInMemory hosted.old hosted.new (answered node (record hosted.old { second_has = second_has; third_has = third_has }) extent) result }
 {
     // Counted from 0, so that no more than those that are answered and one is looked at.
     let mut looks = 0;
     let waiting = hosted.waiting();
     let count = waiting.covered(lesser(second_has, third_has), &mut looks);
-    add_answers(alloc, node, extent, waiting, count, step)?;
+    let step = answers_of(alloc, node, extent, waiting, count)?;
     hosted.answer(second_has, third_has, count);
-    Ok(())
+    Ok(step)
 }

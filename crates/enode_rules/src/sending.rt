@@ -7,7 +7,6 @@ ghost use Rattle.wire.specs.declared.body.AppendBody.TheVariants.{Have, Refused,
 ghost use Rattle.wire.specs.declared.body.Body.TheVariants as bodies;
 ghost use Rattle.model_streams.specs.Outcome.{packet as sent};
 ghost use Rattle.model_streams.specs.Node.{acked, answers, puts, to_manager};
-ghost use Rattle.enode_rules.specs.KeptStep.{empty_step, told};
 
 use block_types::Nodes;
 use disk::DiskFault;
@@ -16,19 +15,6 @@ use std::alloc::Global;
 use wire::{
     ActorId, AppendBody, Blocks, Body, ExtentId, Note, Packet, Refusal, ReqNo, SealBody, Step,
 };
-
-/// Fills a step that is kept with one that was made. Without one it stays as it was.
-pub fn fill(step: &mut Step, made: Result<Step, DiskFault>) -> Result<(), DiskFault>
-    ensures { told result step.new ≡ made }
-{
-    match made {
-        Ok(made) => {
-            *step = made;
-            Ok(())
-        }
-        Err(fault) => Err(fault),
-    }
-}
 
 /// One packet of a node and no observation.
 pub(crate) fn one(alloc: Global, from: u8, to: ActorId, body: Body) -> Result<Step, DiskFault>
@@ -62,25 +48,20 @@ pub(crate) fn one_and_a_note(
     Ok(step)
 }
 
-/// Tells how long a secondary is.
+/// How long a secondary is.
 pub(crate) fn tell_length(
+    alloc: Global,
     from: u8,
     primary: u8,
     extent: ExtentId,
     length: u32,
-    step: &mut Step,
-) -> Result<(), DiskFault>
-    requires empty { step.old ≡ empty_step }
-    ensures packets { OnOk result (step.new.packets ≡ sent (Node from) (Node primary) (bodies.Append (Have extent length)) ∷ []) }
-    ensures notes { OnOk result (step.new.notes ≡ []) }
+) -> Result<Step, DiskFault>
+    ensures packets { IfOk result (λ step. step.packets ≡ sent (Node from) (Node primary) (bodies.Append (Have extent length)) ∷ []) }
+    ensures notes { IfOk result (λ step. step.notes ≡ []) }
     ensures fault { IfErr result (λ e. e ≡ faults.Memory) }
 {
-    step.packets.push(Packet {
-        from: ActorId::Node(from),
-        to: ActorId::Node(primary),
-        body: Body::Append(AppendBody::Have { extent, length }),
-    })?;
-    Ok(())
+    let body = Body::Append(AppendBody::Have { extent, length });
+    one(alloc, from, ActorId::Node(primary), body)
 }
 
 /// Adds the answer to an append, and that it is acknowledged.
@@ -177,22 +158,29 @@ fn add_put(
 }
 
 /// A Put to each secondary.
-pub(crate) fn add_puts(
+pub(crate) fn puts_of(
     alloc: Global,
     node: u8,
     places: Nodes,
     extent: ExtentId,
     offset: u32,
     blocks: &Blocks,
-    step: &mut Step,
-) -> Result<(), DiskFault>
-    requires group { IsGroup blocks.now }
-    requires empty { step.old ≡ empty_step }
-    ensures packets { OnOk result (step.new.packets ≡ puts node places extent offset blocks.now) }
-    ensures notes { OnOk result (step.new.notes ≡ []) }
+) -> Result<Step, DiskFault>
+    requires { IsGroup blocks.now }
+    ensures packets { IfOk result (λ step. step.packets ≡ puts node places extent offset blocks.now) }
+    ensures notes { IfOk result (λ step. step.notes ≡ []) }
     ensures fault { IfErr result (λ e. e ≡ faults.Memory) }
 {
-    add_put(alloc, step, node, places.second, extent, offset, blocks)?;
-    add_put(alloc, step, node, places.third, extent, offset, blocks)?;
-    Ok(())
+    let mut step = Step::silent(alloc);
+    add_put(
+        alloc,
+        &mut step,
+        node,
+        places.second,
+        extent,
+        offset,
+        blocks,
+    )?;
+    add_put(alloc, &mut step, node, places.third, extent, offset, blocks)?;
+    Ok(step)
 }

@@ -52,7 +52,7 @@ pub(crate) fn next_group(
                 blocks,
                 notes,
             } = plan;
-            let blocks = Appending::of(&blocks)?;
+            let blocks = Appending::of(alloc, &blocks)?;
             Ok(Some(Ready {
                 count,
                 size,

@@ -54,13 +54,7 @@ pub fn load_reply(
                 return Ok(Progress::Rests);
             }
             match content.load.phase() {
-                LoadPhase::Opening { .. } => opens(
-                    content,
-                    alloc,
-                    context,
-                    packet,
-                    streams.lists(),
-                ),
+                LoadPhase::Opening { .. } => opens(content, alloc, context, packet, streams),
                 _ => Ok(Progress::Rests),
             }
         }

@@ -1,4 +1,3 @@
-pub mod Kept
 pub mod ValueCache
 pub mod Looking
 pub mod Moving

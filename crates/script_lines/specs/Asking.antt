@@ -1,5 +1,6 @@
 -- What the lines of a script submit.
-use Rattle.std.specs.Prelude.{ℕ, true}
+use Rattle.std.specs.Prelude.{◌≡◌, ℕ, true}
+use Rattle.wire.specs.declared.actor.ActorId.{ActorId}
 use Rattle.wire.specs.declared.actor.ActorId.TheVariants as actors
 use Rattle.wire.specs.declared.actor.ReqNo.{ReqNo}
 use Rattle.wire.specs.declared.body.AppendBody.TheVariants as appends
@@ -37,10 +38,14 @@ abbrev pub asked : ℕ → ReqNo → Request → Event
 asked user number (requests.Create kind) = call_by user (bodies.Stream (streams.CreateStream (stream_of kind) 0 number))
 asked user number (requests.Extend kind last pick) = call_by user (bodies.Stream (streams.Extend (stream_of kind) 0 last pick number))
 asked user number (requests.Append node extent blocks) =
-    Submit user (actors.Node node) (bodies.Append (appends.Append extent 0 blocks number))
+    Submit user (actors.Node node) (bodies.Append (appends.Append extent 0 blocks.items number))
 asked user number (requests.Read node extent offset length) = read_by user node (reads.ReadAt extent offset length number)
 asked user number (requests.Content node extent upto) = read_by user node (reads.ReadGroups extent upto true number)
 asked user number (requests.Transact server range changes) = ask_by user server (tables.Transact range changes number)
 asked user number (requests.Get server range key) = ask_by user server (tables.Get range key number)
 asked user number (requests.Route key) = Submit user actors.Map (bodies.Map (maps.Route key number))
 asked user number (requests.Seal extent) = call_by user (bodies.Seal (seals.SealExtent extent number))
+
+-- whom this request asks and what, whichever user submits it
+abbrev pub IsCall : ReqNo → Request → ActorId × Body → Type 0
+IsCall number request call = (user : ℕ) → asked user number request ≡ Submit user call.0 call.1

@@ -1,6 +1,6 @@
-//! The requests of users, as events.
+//! The requests of users: whom they ask, and what.
 ghost use Rattle.std.specs.Prelude.{◌≡◌};
-ghost use Rattle.script_lines.specs.Asking.{ask_by, asked, call_by, read_by, stream_of};
+ghost use Rattle.script_lines.specs.Asking.{IsCall, asked, stream_of};
 ghost use Rattle.script_lines.specs.declared.line.Request.TheVariants as requests;
 
 use crate::line::Request;
@@ -22,39 +22,6 @@ fn stream_of(kind: StreamKind) -> StreamName
     }
 }
 
-/// A user's call of the manager.
-fn call(user: u64, body: Body) -> Event
-    ensures { result ≡ call_by user body }
-{
-    Event::Submit {
-        user,
-        to: ActorId::Manager,
-        body,
-    }
-}
-
-/// A user's read at a node.
-fn read(user: u64, node: u8, body: ReadBody) -> Event
-    ensures { result ≡ read_by user node body }
-{
-    Event::Submit {
-        user,
-        to: ActorId::Node(node),
-        body: Body::Read(body),
-    }
-}
-
-/// A user's call of a server.
-fn ask(user: u64, server: ServerNo, body: TableBody) -> Event
-    ensures { result ≡ ask_by user server body }
-{
-    Event::Submit {
-        user,
-        to: ActorId::Server(server),
-        body: Body::Table(body),
-    }
-}
-
 /// The extent that a word of a script numbers.
 fn extent_of(number: Option<u64>) -> Option<ExtentId>
     ensures { result ≡ number }
@@ -66,137 +33,143 @@ fn extent_of(number: Option<u64>) -> Option<ExtentId>
 }
 
 /// The making of a stream.
-fn create(user: u64, number: ReqNo, kind: StreamKind) -> Event
-    ensures { result ≡ asked user number (requests.Create kind) }
+fn create(number: ReqNo, kind: StreamKind) -> (ActorId, Body)
+    ensures { IsCall number (requests.Create kind) result }
 {
-    call(
-        user,
-        Body::Stream(StreamBody::CreateStream {
-            stream: stream_of(kind),
-            fence: Fence(0),
-            request: number,
-        }),
-    )
+    let body = StreamBody::CreateStream {
+        stream: stream_of(kind),
+        fence: Fence(0),
+        request: number,
+    };
+    (ActorId::Manager, Body::Stream(body))
 }
 
 /// One more extent of a stream.
-fn extend(user: u64, number: ReqNo, kind: StreamKind, last: Option<u64>, pick: Nodes) -> Event
-    ensures { result ≡ asked user number (requests.Extend kind last pick) }
+fn extend(number: ReqNo, kind: StreamKind, last: Option<u64>, pick: Nodes) -> (ActorId, Body)
+    ensures { IsCall number (requests.Extend kind last pick) result }
 {
-    call(
-        user,
-        Body::Stream(StreamBody::Extend {
-            stream: stream_of(kind),
-            generation: Fence(0),
-            last: extent_of(last),
-            pick,
-            request: number,
-        }),
-    )
+    let body = StreamBody::Extend {
+        stream: stream_of(kind),
+        generation: Fence(0),
+        last: extent_of(last),
+        pick,
+        request: number,
+    };
+    (ActorId::Manager, Body::Stream(body))
 }
 
 /// The seal of an extent.
-fn seal(user: u64, number: ReqNo, extent: u64) -> Event
-    ensures { result ≡ asked user number (requests.Seal extent) }
+fn seal(number: ReqNo, extent: u64) -> (ActorId, Body)
+    ensures { IsCall number (requests.Seal extent) result }
 {
-    call(
-        user,
-        Body::Seal(SealBody::SealExtent {
-            extent: ExtentId(extent),
-            request: number,
-        }),
-    )
+    let body = SealBody::SealExtent {
+        extent: ExtentId(extent),
+        request: number,
+    };
+    (ActorId::Manager, Body::Seal(body))
 }
 
 /// An append at a primary.
-fn append(user: u64, number: ReqNo, node: u8, extent: u64, blocks: Blocks) -> Event
-    ensures { result ≡ asked user number (requests.Append node extent blocks) }
+fn append(number: ReqNo, node: u8, extent: u64, blocks: Vec<Bytes>) -> (ActorId, Body)
+    ensures { IsCall number (requests.Append node extent blocks) result }
 {
-    Event::Submit {
-        user,
-        to: ActorId::Node(node),
-        body: Body::Append(AppendBody::Append {
-            extent: ExtentId(extent),
-            generation: Fence(0),
-            blocks,
-            request: number,
-        }),
-    }
+    let body = AppendBody::Append {
+        extent: ExtentId(extent),
+        generation: Fence(0),
+        blocks: Blocks { items: blocks },
+        request: number,
+    };
+    (ActorId::Node(node), Body::Append(body))
 }
 
 /// A read of bytes of a replica.
-fn bytes_at(user: u64, number: ReqNo, node: u8, extent: u64, offset: u32, length: u32) -> Event
-    ensures { result ≡ asked user number (requests.Read node extent offset length) }
+fn bytes_at(number: ReqNo, node: u8, extent: u64, offset: u32, length: u32) -> (ActorId, Body)
+    ensures { IsCall number (requests.Read node extent offset length) result }
 {
-    read(
-        user,
-        node,
-        ReadBody::ReadAt {
-            extent: ExtentId(extent),
-            offset,
-            length,
-            request: number,
-        },
-    )
+    let body = ReadBody::ReadAt {
+        extent: ExtentId(extent),
+        offset,
+        length,
+        request: number,
+    };
+    (ActorId::Node(node), Body::Read(body))
 }
 
 /// A read of the content of a sealed replica.
-fn content(user: u64, number: ReqNo, node: u8, extent: u64, upto: u32) -> Event
-    ensures { result ≡ asked user number (requests.Content node extent upto) }
+fn content(number: ReqNo, node: u8, extent: u64, upto: u32) -> (ActorId, Body)
+    ensures { IsCall number (requests.Content node extent upto) result }
 {
-    read(
-        user,
-        node,
-        ReadBody::ReadGroups {
-            extent: ExtentId(extent),
-            upto,
-            sealed: true,
-            request: number,
-        },
-    )
+    let body = ReadBody::ReadGroups {
+        extent: ExtentId(extent),
+        upto,
+        sealed: true,
+        request: number,
+    };
+    (ActorId::Node(node), Body::Read(body))
 }
 
 /// A transaction.
-fn transact(user: u64, number: ReqNo, server: ServerNo, range: u64, changes: Changes) -> Event
-    ensures { result ≡ asked user number (requests.Transact server range changes) }
+fn transact(number: ReqNo, server: ServerNo, range: u64, changes: Changes) -> (ActorId, Body)
+    ensures { IsCall number (requests.Transact server range changes) result }
 {
-    ask(
-        user,
-        server,
-        TableBody::Transact {
-            range: RangeId(range),
-            changes,
-            request: number,
-        },
-    )
+    let body = TableBody::Transact {
+        range: RangeId(range),
+        changes,
+        request: number,
+    };
+    (ActorId::Server(server), Body::Table(body))
 }
 
 /// A look at a key.
-fn get(user: u64, number: ReqNo, server: ServerNo, range: u64, key: Bytes) -> Event
-    ensures { result ≡ asked user number (requests.Get server range key) }
+fn get(number: ReqNo, server: ServerNo, range: u64, key: Bytes) -> (ActorId, Body)
+    ensures { IsCall number (requests.Get server range key) result }
 {
-    ask(
-        user,
-        server,
-        TableBody::Get {
-            range: RangeId(range),
-            key,
-            request: number,
-        },
-    )
+    let body = TableBody::Get {
+        range: RangeId(range),
+        key,
+        request: number,
+    };
+    (ActorId::Server(server), Body::Table(body))
 }
 
 /// The question of which range has a key.
-fn route(user: u64, number: ReqNo, key: Bytes) -> Event
-    ensures { result ≡ asked user number (requests.Route key) }
+fn route(number: ReqNo, key: Bytes) -> (ActorId, Body)
+    ensures { IsCall number (requests.Route key) result }
 {
-    Event::Submit {
-        user,
-        to: ActorId::Map,
-        body: Body::Map(MapBody::Route {
-            key,
-            request: number,
-        }),
+    let body = MapBody::Route {
+        key,
+        request: number,
+    };
+    (ActorId::Map, Body::Map(body))
+}
+
+/// Whom a user's request, which has this number, asks, and what: it is the same for every user.
+pub fn call_of(number: ReqNo, task: Request) -> (ActorId, Body)
+    ensures { IsCall number task result }
+{
+    match task {
+        Request::Create { kind } => create(number, kind),
+        Request::Extend { kind, last, pick } => extend(number, kind, last, pick),
+        Request::Append {
+            node,
+            extent,
+            blocks,
+        } => append(number, node, extent, blocks),
+        Request::Read {
+            node,
+            extent,
+            offset,
+            length,
+        } => bytes_at(number, node, extent, offset, length),
+        Request::Content { node, extent, upto } => content(number, node, extent, upto),
+        Request::Transact {
+            server,
+            range,
+            changes,
+        } => transact(number, server, range, changes),
+        Request::Get { server, range, key } => get(number, server, range, key),
+        Request::Route { key } => route(number, key),
+        Request::Seal { extent } => seal(number, extent),
     }
 }
 
@@ -204,28 +177,6 @@ fn route(user: u64, number: ReqNo, key: Bytes) -> Event
 pub fn event_of(user: u64, number: ReqNo, task: Request) -> Event
     ensures { result ≡ asked user number task }
 {
-    match task {
-        Request::Create { kind } => create(user, number, kind),
-        Request::Extend { kind, last, pick } => extend(user, number, kind, last, pick),
-        Request::Append {
-            node,
-            extent,
-            blocks,
-        } => append(user, number, node, extent, blocks),
-        Request::Read {
-            node,
-            extent,
-            offset,
-            length,
-        } => bytes_at(user, number, node, extent, offset, length),
-        Request::Content { node, extent, upto } => content(user, number, node, extent, upto),
-        Request::Transact {
-            server,
-            range,
-            changes,
-        } => transact(user, number, server, range, changes),
-        Request::Get { server, range, key } => get(user, number, server, range, key),
-        Request::Route { key } => route(user, number, key),
-        Request::Seal { extent } => seal(user, number, extent),
-    }
+    let (to, body) = call_of(number, task);
+    Event::Submit { user, to, body }
 }

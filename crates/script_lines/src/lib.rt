@@ -18,7 +18,7 @@ mod text;
 mod verb;
 mod word;
 
-pub use asking::event_of;
+pub use asking::{call_of, event_of};
 pub use boxed_event::BoxedEvent;
 pub use line::{Line, Request};
 pub use reading::parse;

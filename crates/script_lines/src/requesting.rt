@@ -10,7 +10,6 @@ use crate::verb::{Wish, wish_of};
 use crate::word::{blocks, changes, kind, last, node, numbers, place, server};
 use block_types::Nodes;
 use std::alloc::{AllocError, Global};
-use wire::Blocks;
 
 /// What a user asks by these words.
 pub fn request(alloc: Global, words: &[&str]) -> Result<Option<Request>, AllocError>
@@ -122,7 +121,7 @@ fn append(alloc: Global, words: &[&str]) -> Result<Option<Request>, AllocError>
         Some(blocks) => Ok(Some(Request::Append {
             node: node(at),
             extent,
-            blocks: Blocks::of(blocks)?,
+            blocks,
         })),
         None => Ok(None),
     }

@@ -1,19 +1,21 @@
 //! A script as it runs.
-ghost use Rattle.std.specs.Prelude.{◌≡◌, ◌++◌, ◌∷◌, ◌-◌, [], IfErr, IfNone, IfOk, IfSome, OnOk, filter, length, not};
+ghost use Rattle.std.specs.Prelude.{◌≡◌, ◌++◌, ◌∷◌, ◌-◌, [], IfErr, IfNone, IfOk, IfSome, None, OnOk, filter, length, not};
+ghost use Rattle.std.specs.Io.KnownBytes.{Appends};
+ghost use Rattle.model_streams.specs.declared.event.Event.TheVariants as events;
 ghost use Rattle.model_partition.specs.Cluster.{first_cluster};
 ghost use Rattle.script_run.specs.Deliveries.{Delivered, IsLowest, Passed, is_same};
 ghost use Rattle.script_run.specs.Failures.{IsRunFailure};
-ghost use Rattle.script_run.specs.Output.{Prints};
+ghost use Rattle.script_run.specs.Output.{Prints, line};
 ghost use Rattle.script_run.specs.Playing.{Delivers, DeliversPacket, Happens, IsFresh, IsSettled, Plays, Settles, Submits};
 ghost use Rattle.world.specs.Cluster.{ClusterMirrors, IsRun};
 
 use crate::deliveries::Deliveries;
 use crate::error::Failure;
-use crate::happening::{happen, look};
-use crate::printing::{print, print_some};
+use crate::happening::{deliver, happen, look};
+use crate::printing::print_some;
 use crate::tickets::Tickets;
-use script_lines::{Line, Request, event_of};
-use script_reports::{Report, report_answer};
+use script_lines::{Line, Request, call_of};
+use script_reports::{Report, ShortLine, report_answer};
 use std::alloc::{AllocError, Global};
 use std::io::Write;
 use std::marker::Model;
@@ -31,6 +33,8 @@ pub struct Session {
     deliveries: Deliveries,
     tickets: Tickets,
     cut: Vec<ActorId>,
+    // the memory in which lines are put together
+    short: ShortLine,
 }
 
 impl Model for Session {
@@ -62,6 +66,7 @@ impl Session {
             deliveries: Deliveries::new(alloc),
             tickets: Tickets::new(alloc),
             cut: Vec::new(alloc),
+            short: ShortLine::newline(),
         })
     }
 
@@ -79,7 +84,7 @@ impl Session {
         ensures failed { IfErr result IsRunFailure }
     {
         match line {
-            Line::Submit { user, request } => self.submit(user, request, writer),
+            Line::Submit { user, request } => self.submit(user, request),
             Line::Deliver(number) => self.deliver(number as usize, writer),
             Line::DeliverLast => self.deliver_last(writer),
             Line::Settle => self.settle(writer),
@@ -88,7 +93,10 @@ impl Session {
                 self.heal(actor);
                 Ok(())
             }
-            Line::Show { node, extent } => print(look(&self.run, node, extent), writer),
+            Line::Show { node, extent } => {
+                let seen = look(&self.run, node, extent);
+                self.tell(&Some(seen), writer)
+            }
             Line::Happens(event) => self.observe(event.into_event(), writer),
         }
     }
@@ -98,7 +106,16 @@ impl Session {
         ensures happens { OnOk result (Prints (W.contents writer.old) (W.contents writer.new) (λ text. Happens self.old event text self.new)) }
         ensures failed { IfErr result IsRunFailure }
     {
-        happen(&mut self.run, self.alloc, event, writer)
+        happen(&mut self.run, self.alloc, event, &mut self.short, writer)
+    }
+
+    /// Prints a line, if there is one.
+    fn tell<W: Write>(&mut self, report: &Option<Report>, writer: &mut W) -> Result<(), Failure>
+        ensures printed { OnOk result (Appends (W.contents writer.old) (W.contents writer.new) (line report.now)) }
+        ensures same { self.new ≡ self.old }
+        ensures failed { IfErr result IsRunFailure }
+    {
+        print_some(report, &mut self.short, writer)
     }
 
     fn cut_off(&mut self, actor: ActorId) -> Result<(), Failure>
@@ -115,19 +132,14 @@ impl Session {
         take_out(&mut self.cut, actor);
     }
 
-    fn submit<W: Write>(&mut self, user: u64, asked: Request, writer: &mut W) -> Result<(), Failure>
-        ensures submits { OnOk result (Prints (W.contents writer.old) (W.contents writer.new)
-            (λ text. Submits self.old user asked text self.new)) }
+    fn submit(&mut self, user: u64, asked: Request) -> Result<(), Failure>
+        ensures submits { OnOk result (Submits self.old user asked [] self.new) }
         ensures failed { IfErr result IsRunFailure }
     {
         let ticket = self.tickets.take(user)?;
-        let number = ReqNo::User { user, ticket };
-        happen(
-            &mut self.run,
-            self.alloc,
-            event_of(user, number, asked),
-            writer,
-        )
+        let (to, body) = call_of(ReqNo::User { user, ticket }, asked);
+        self.run.submit(user, to, body)?;
+        Ok(())
     }
 
     /// Delivers the packet of this number, and prints what is observed and the answer that it brings to a user. A number that was
@@ -138,10 +150,13 @@ impl Session {
         ensures failed { IfErr result IsRunFailure }
     {
         match self.run.sent().get(number) {
-            Some(packet) => {
-                let answer = report_answer(self.alloc, packet)?;
-                self.hand_over(number, answer, writer)
-            }
+            Some(packet) => match packet.to {
+                ActorId::User(_) => {
+                    let answer = report_answer(self.alloc, packet)?;
+                    self.hand_over(number, &answer, writer)
+                }
+                _ => self.pass_on(number, writer),
+            },
             None => Ok(()),
         }
     }
@@ -164,20 +179,38 @@ impl Session {
         self.deliveries.note(number)
     }
 
+    /// Packet `number` comes to whom it is for, and what is observed of it is printed.
+    fn carry<W: Write>(&mut self, number: usize, writer: &mut W) -> Result<(), Failure>
+        ensures happens { OnOk result (Prints (W.contents writer.old) (W.contents writer.new)
+            (λ text. Happens self.old (events.Deliver number) text self.new)) }
+        ensures failed { IfErr result IsRunFailure }
+    {
+        deliver(&mut self.run, self.alloc, number, &mut self.short, writer)
+    }
+
+    /// Packet `number`, which brings no answer, is delivered.
+    fn pass_on<W: Write>(&mut self, number: usize, writer: &mut W) -> Result<(), Failure>
+        ensures delivers { OnOk result (Prints (W.contents writer.old) (W.contents writer.new)
+            (λ text. DeliversPacket self.old number None text self.new)) }
+        ensures failed { IfErr result IsRunFailure }
+    {
+        self.note(number)?;
+        self.carry(number, writer)
+    }
+
     /// Packet `number`, which brings this answer, is delivered.
     fn hand_over<W: Write>(
         &mut self,
         number: usize,
-        answer: Option<Report>,
+        answer: &Option<Report>,
         writer: &mut W,
     ) -> Result<(), Failure>
         ensures delivers { OnOk result (Prints (W.contents writer.old) (W.contents writer.new)
-            (λ text. DeliversPacket self.old number answer text self.new)) }
+            (λ text. DeliversPacket self.old number answer.now text self.new)) }
         ensures failed { IfErr result IsRunFailure }
     {
-        self.note(number)?;
-        self.observe(Event::Deliver { number }, writer)?;
-        print_some(answer, writer)
+        self.pass_on(number, writer)?;
+        self.tell(answer, writer)
     }
 
     /// The lowest packet that a settle takes, where there is one; those below it are passed over. An error is out of memory (22).

@@ -13,7 +13,7 @@ returns-then-not-is_same_where_both c =
     let at = c.loop-block.at in
     let rest = joined (drop (c.loop-block.block-index + 1) c.args.blocks.now) in
     let here : joined (drop c.loop-block.block-index c.args.blocks.now) ≡ c.block-item.result ++ rest = ap joined (next_of c.args.blocks.now c.loop-block.block-index c.block-item.result c.loop-block-test.true c.block-item.is) in
-    let tells : Decides c.is_same_where_both.result (SameWhereBoth c.args.offset xs at (c.block-item.result)) = subst (λ m. Decides c.is_same_where_both.result (SameWhereBoth m xs at c.block-item.result)) c.from-start.ensures (subst (λ (l : List ℕ). Decides c.is_same_where_both.result (SameWhereBoth c.from-start.result xs at l)) c.as_slice-shown.ensures c.is_same_where_both.ensures) in
+    let tells : Decides c.is_same_where_both.result (SameWhereBoth c.args.offset xs at (c.block-item.result)) = subst (λ m. Decides c.is_same_where_both.result (SameWhereBoth m xs at c.block-item.result)) c.from-start.ensures (subst (λ (l : List ℕ). Decides c.is_same_where_both.result (SameWhereBoth c.from-start.result xs at l)) c.as_slice-shown.ensures.value c.is_same_where_both.ensures) in
     not_so (λ s. not_from_Decides c.is_same_where_both.result tells c.if-not-is_same_where_both.true (shown_first c.args.offset xs at (c.block-item.result) rest (subst (SameWhereBoth c.args.offset xs at) here (c.loop-block.invariant.0 s))))
 
 pub loop-block-preserved : goal.loop-block-preserved
@@ -23,8 +23,8 @@ loop-block-preserved c =
     let at = c.loop-block.at in
     let rest = joined (drop (c.loop-block.block-index + 1) c.args.blocks.now) in
     let here : joined (drop c.loop-block.block-index c.args.blocks.now) ≡ c.block-item.result ++ rest = ap joined (next_of c.args.blocks.now c.loop-block.block-index c.block-item.result c.loop-block-test.true c.block-item.is) in
-    let tells : Decides c.is_same_where_both.result (SameWhereBoth o xs at (c.block-item.result)) = subst (λ m. Decides c.is_same_where_both.result (SameWhereBoth m xs at c.block-item.result)) c.from-start.ensures (subst (λ (l : List ℕ). Decides c.is_same_where_both.result (SameWhereBoth c.from-start.result xs at l)) c.as_slice-shown.ensures c.is_same_where_both.ensures) in
-    let sized : at + length (c.block-item.result) ≡ at + length c.as_slice-shown.result.now = ap (λ (l : List ℕ). at + length l) (sym c.as_slice-shown.ensures) in (
+    let tells : Decides c.is_same_where_both.result (SameWhereBoth o xs at (c.block-item.result)) = subst (λ m. Decides c.is_same_where_both.result (SameWhereBoth m xs at c.block-item.result)) c.from-start.ensures (subst (λ (l : List ℕ). Decides c.is_same_where_both.result (SameWhereBoth c.from-start.result xs at l)) c.as_slice-shown.ensures.value c.is_same_where_both.ensures) in
+    let sized : at + length (c.block-item.result) ≡ at + length c.as_slice-shown.result.now = ap (λ (l : List ℕ). at + length l) (sym c.as_slice-shown.ensures.value) in (
       (λ s. subst (λ n. SameWhereBoth o xs n rest) sized (shown_rest o xs at (c.block-item.result) rest (subst (SameWhereBoth o xs at) here (c.loop-block.invariant.0 s)))),
       (λ s. c.loop-block.invariant.1 (subst (SameWhereBoth o xs at) (sym here)
           (shown_all o xs at (c.block-item.result) rest (tells.0 c.if-not-is_same_where_both.false) (subst (λ n. SameWhereBoth o xs n rest) (sym sized) s)))),
