@@ -39,7 +39,7 @@ fn append(alloc: Global, extent: ExtentId, ticket: u64) -> Result<Packet, Failur
         body: Body::Append(AppendBody::Append {
             extent,
             generation: Fence(0),
-            blocks: Blocks { items: blocks },
+            blocks: Blocks::of(blocks)?,
             request: ReqNo::User { user: 1, ticket },
         }),
     })

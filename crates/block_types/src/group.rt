@@ -1,11 +1,15 @@
 //! Blocks, groups of blocks, and lists of groups. Payloads are shared buffers: a copy of a block copies no byte.
-ghost use Rattle.std.specs.Prelude.{◌≡◌, ◌++◌, ◌∷◌, [], OnOk, ◌⊎◌, ◌≤◌, ◌*◌, ◌==◌, ◌||◌, nat_lt, false, Some, None, IfOk, IfErr, MatchResult, length};
+ghost use Rattle.std.specs.Prelude.{◌≡◌, ◌++◌, ◌∷◌, [], OnOk, ◌⊎◌, ◌<◌, ◌≤◌, map, get_or, ◌*◌, ◌==◌, ◌||◌, nat_lt, false, Some, None, IfOk, IfErr, MatchResult, length};
 ghost use Rattle.std.specs.List.{AllByRecursion, list_any};
+ghost use Rattle.std.specs.Arc.{arc_slice_items};
+ghost use Rattle.sha2.specs.Sha256.{sha256};
 ghost use Rattle.block_types.specs.Limits.{IsBlock, IsGroup, group_size, group_fault, texts_of};
 
+use crate::digests::{Digests, digests_of};
 use crate::fault::GroupFault;
 use crate::limits::{MAX_BLOCK, MAX_BLOCKS};
 use bytes::Bytes;
+use sha2::{Digest, Sha256};
 use std::alloc::{AllocError, Global};
 use std::marker::Model;
 use std::sync::ArcSlice;
@@ -72,15 +76,20 @@ impl Block {
 }
 
 /// The blocks of one append, in order, from 1 to 64 of them: all of them are kept, or none (after Calder et al., SOSP
-/// 2011, section 4). Its value is the list of their bytes. Copies share the list.
+/// 2011, section 4). Its value is the list of their bytes. Copies share the list, and the digests of the blocks where they
+/// are known.
 pub struct Group {
-    blocks: ArcSlice<Block>,
+    blocks: ArcSlice<Bytes>,
+    digests: Digests,
 }
 
 // Written out, so that a crate above that lets one go has no proof of what is in it.
 impl Drop for Group {
     fn drop(self) {
-        let Group { blocks: _ } = self;
+        let Group {
+            blocks: _,
+            digests: _,
+        } = self;
     }
 }
 
@@ -90,11 +99,12 @@ impl Model for Group {
     ghost Value = { List (List ℕ) };
 
     ghost use Rattle.std.specs.Arc.{arc_slice_items};
+    ghost use Rattle.block_types.specs.Digests.{AreDigests};
     ghost use Rattle.block_types.specs.Limits.{IsGroup};
 
     ghost view = { λ g. arc_slice_items g.blocks };
 
-    ghost invariant = { λ g. IsGroup (arc_slice_items g.blocks) };
+    ghost invariant = { λ g. IsGroup (arc_slice_items g.blocks) × AreDigests (arc_slice_items g.blocks) g.digests };
 }
 
 impl Group {
@@ -116,13 +126,27 @@ impl Group {
         Ok(Group::of(blocks_of(alloc, texts)?)?)
     }
 
-    /// The group of these blocks. An error is out of memory (22).
-    pub fn of(blocks: Vec<Block>) -> Result<Group, AllocError>
+    /// The group of these buffers, a block each, which it keeps and does not copy. An error is out of memory (22).
+    pub fn of(blocks: Vec<Bytes>) -> Result<Group, AllocError>
         requires { IsGroup blocks.items }
         ensures { IfOk result (λ g. g ≡ blocks.items) }
     {
         Ok(Group {
             blocks: ArcSlice::from_vec(blocks)?,
+            digests: Digests::unknown(),
+        })
+    }
+
+    /// As `of`, where the SHA-256 digest of each block is known already, which it keeps. An error is out of memory (22).
+    pub fn of_digests(blocks: Vec<Bytes>, digests: Vec<[u8; 32]>) -> Result<Group, AllocError>
+        requires group { IsGroup blocks.items }
+        requires digests { digests.items ≡ map sha256 blocks.items }
+        ensures { IfOk result (λ g. g ≡ blocks.items) }
+    {
+        let blocks = ArcSlice::from_vec(blocks)?;
+        Ok(Group {
+            blocks,
+            digests: Digests::of(digests)?,
         })
     }
 
@@ -135,12 +159,24 @@ impl Group {
         total(blocks)
     }
 
-    /// The group of these buffers, a block each, whose bytes it shares. An error is out of memory (22).
-    pub fn shared(alloc: Global, buffers: &[Bytes]) -> Result<Group, AllocError>
-        requires { IsGroup buffers.now }
-        ensures { IfOk result (λ g. g ≡ buffers.now) }
+    /// The group of a list of buffers, a block each. It shares the list: it costs the same for each. An error is out of
+    /// memory (22).
+    pub fn shared(buffers: &ArcSlice<Bytes>) -> Result<Group, AllocError>
+        requires { IsGroup (arc_slice_items buffers.now) }
+        ensures { IfOk result (λ g. g ≡ arc_slice_items buffers.now) }
     {
-        Group::of(shares(alloc, buffers)?)
+        Ok(Group {
+            blocks: buffers.clone()?,
+            digests: Digests::unknown(),
+        })
+    }
+
+    /// The list of its blocks, which it shares: it costs the same for each group. An error is out of memory (22).
+    pub fn share(&self) -> Result<ArcSlice<Bytes>, AllocError>
+        ensures value { IfOk result (λ list. arc_slice_items list ≡ self.now) }
+        ensures fits { IsGroup self.now }
+    {
+        self.blocks.clone()
     }
 
     /// The same group again, which shares the list of its blocks: it costs the same for each group. An error is out of
@@ -148,13 +184,42 @@ impl Group {
     pub fn copy(&self) -> Result<Group, AllocError>
         ensures { IfOk result (λ g. g ≡ self.now) }
     {
+        let blocks = self.blocks.clone()?;
         Ok(Group {
-            blocks: self.blocks.clone()?,
+            blocks,
+            digests: self.digests.copy()?,
         })
     }
 
+    /// The same group again, which knows the SHA-256 digest of each of its blocks, so that no copy of it computes one again.
+    /// An error is out of memory (22).
+    pub fn with_digests(&self, alloc: Global) -> Result<Group, AllocError>
+        ensures { IfOk result (λ g. g ≡ self.now) }
+    {
+        if self.digests.are_known() {
+            return self.copy();
+        }
+        let blocks = self.blocks.clone()?;
+        let digests = digests_of(alloc, &blocks)?;
+        Ok(Group {
+            blocks,
+            digests: Digests::of(digests)?,
+        })
+    }
+
+    /// The SHA-256 digest of the block at an index: the one that is known, or else it is computed. Takes no memory.
+    pub fn digest(&self, index: usize) -> [u8; 32]
+        requires { index < length self.now }
+        ensures { result ≡ sha256 (get_or self.now index []) }
+    {
+        match self.digests.get(index) {
+            Some(digest) => digest,
+            None => Sha256::digest(self.blocks[index].as_slice()),
+        }
+    }
+
     /// The blocks in order, from 1 to 64 of them.
-    pub fn blocks(&self) -> &[Block]
+    pub fn blocks(&self) -> &[Bytes]
         ensures value { result.now ≡ self.now }
         ensures fits { IsGroup self.now }
     {
@@ -173,37 +238,26 @@ fn any_bad(texts: &[Vec<u8>]) -> bool
     false
 }
 
-fn blocks_of(alloc: Global, texts: Vec<Vec<u8>>) -> Result<Vec<Block>, GroupFault>
+fn blocks_of(alloc: Global, texts: Vec<Vec<u8>>) -> Result<Vec<Bytes>, GroupFault>
     requires { list_any (λ b. length b == 0 || nat_lt 65536 (length b)) (texts_of texts.items) ≡ false }
     ensures made { IfOk result (λ bs. (bs.items ≡ texts_of texts.items) × AllByRecursion IsBlock bs.items) }
     ensures fault { IfErr result (λ e. e ≡ GroupFault.Memory) }
 {
     let mut made = Vec::with_capacity(alloc, texts.len())?;
     for text in texts {
-        made.push(Block::of(Bytes::from_vec(text)?))?;
+        made.push(Bytes::from_vec(text)?)?;
     }
     Ok(made)
 }
 
-fn shares(alloc: Global, buffers: &[Bytes]) -> Result<Vec<Block>, AllocError>
-    requires { AllByRecursion IsBlock buffers.now }
-    ensures { IfOk result (λ v. v.items ≡ buffers.now) }
-{
-    let mut made = Vec::with_capacity(alloc, buffers.len())?;
-    for buffer in buffers {
-        made.push(Block::of(buffer.clone()?))?;
-    }
-    Ok(made)
-}
-
-fn total(blocks: &[Block]) -> u32
-    requires { length blocks.now ≤ 64 }
+fn total(blocks: &[Bytes]) -> u32
+    requires { IsGroup blocks.now }
     ensures value { result ≡ group_size blocks.now }
     ensures bound { result ≤ 65536 * length blocks.now }
 {
     let mut size = 0;
     for block in blocks {
-        size += block.as_slice().len() as u32;
+        size += block.len() as u32;
     }
     size
 }

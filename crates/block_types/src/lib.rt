@@ -12,6 +12,7 @@
 //! Running out of memory is the one error that no clause limits.
 #![tactic(auto)]
 
+mod digests;
 mod fault;
 mod group;
 mod limits;

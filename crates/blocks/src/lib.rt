@@ -8,6 +8,7 @@
 //! - `decode` answers a record and its size exactly where the first bytes are the spelling of that record, and `Damaged`
 //!   only where no front of the bytes is a spelling. So does `decode_shared`, whose record shares the bytes that were read.
 //! - No spelling begins another (`one_spelling`), in version 1 and in version 2 alike.
+//! - `fits_all` says of a record of one version that it fits each, and `all_fit` of records.
 //! - `reader` and `writer` read and write the numbers and byte strings of every other format. Their laws stand in
 //!   proofs/Formats.antt, for the formats of the crates above.
 //!
@@ -17,6 +18,7 @@
 pub mod reader;
 mod reading;
 mod shared;
+mod sizes;
 pub mod writer;
 mod writing;
 
@@ -25,4 +27,5 @@ pub use block_types::{
     MAX_TARGET, MIN_TARGET, Memory, Nodes, Record, Version,
 };
 pub use reading::{decode, decode_as, decode_shared, one_spelling};
+pub use sizes::{all_fit, fits_all};
 pub use writing::{encode, encode_as};

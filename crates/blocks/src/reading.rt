@@ -13,7 +13,7 @@ ghost use Rattle.blocks.specs.Reading.{block_at, group_at, nodes_at, groups_at, 
 use crate::reader::{bytes_of, ended, u8_at, u32_at, u64_at};
 use crate::shared::shared_of;
 use block_types::{
-    Block, BlockFault, Group, Groups, MAX_BLOCK, MAX_BLOCKS, MAX_TARGET, MIN_TARGET, Nodes, Record,
+    BlockFault, Group, Groups, MAX_BLOCK, MAX_BLOCKS, MAX_TARGET, MIN_TARGET, Nodes, Record,
     Version,
 };
 use bytes::Bytes;
@@ -42,7 +42,7 @@ fn block_of<'a>(
     version: Version,
     text: &Bytes,
     bytes: &'a [u8],
-) -> Result<(Block, &'a [u8]), BlockFault>
+) -> Result<(Bytes, &'a [u8]), BlockFault>
     requires { IsEndOf bytes.now text.now }
     ensures read { Gives (λ x. (x.0, x.1.now)) result (block_at version bytes.now) }
     ensures fits { IfOk result (λ x. IsBlock x.0) }
@@ -54,7 +54,7 @@ fn block_of<'a>(
     }
     let (block, rest) = shared_of(len as usize, text, rest)?;
     let rest = after_check(version, block.as_slice(), rest)?;
-    Ok((Block::of(block), rest))
+    Ok((block, rest))
 }
 
 fn blocks_of<'a>(
@@ -63,7 +63,7 @@ fn blocks_of<'a>(
     count: u8,
     text: &Bytes,
     bytes: &'a [u8],
-) -> Result<(Vec<Block>, &'a [u8]), BlockFault>
+) -> Result<(Vec<Bytes>, &'a [u8]), BlockFault>
     requires { IsEndOf bytes.now text.now }
     ensures read { Gives (λ x. (x.0.items, x.1.now)) result (many_at (block_at version) count bytes.now) }
     ensures fits { IfOk result (λ x. (length x.0.items ≡ count) × AllByRecursion IsBlock x.0.items) }

@@ -1,15 +1,13 @@
 //! Writing a record as bytes. Each writer appends what its clause says; where one runs out of memory, a part of it
 //! may stand in the buffer after what was there, and `encode_as` cuts it off.
-ghost use Rattle.std.specs.Prelude.{◌≡◌, ◌∷◌, ◌++◌, ◌<◌, ◌^◌, length, OnOk, OnErr};
-ghost use Rattle.block_types.specs.Limits.{IsGroup};
+ghost use Rattle.std.specs.Prelude.{◌≡◌, [], ◌∷◌, ◌++◌, ◌<◌, ◌^◌, get_or, length, OnOk, OnErr};
 ghost use Rattle.block_types.specs.declared.record.Version.TheVariants.{V1};
 ghost use Rattle.blocks.specs.Record.{number, block, group, groups, nodes, body, spelling, Fits, IsInRange};
 ghost use Rattle.blocks.specs.Writing.{Keeps};
 
 use crate::writer::{put_bytes, put_u8, put_u32, put_u64};
-use block_types::{Block, Group, Groups, Memory, Nodes, Record, Version};
+use block_types::{Group, Groups, Memory, Nodes, Record, Version};
 use byteorder::{BigEndian, ByteOrder};
-use sha2::{Digest, Sha256};
 use std::alloc::AllocError;
 
 // Room for a kind and the numbers of a record, and for what stands about the bytes of a block.
@@ -17,28 +15,35 @@ const ROOM: usize = 64;
 
 const PER_BLOCK: usize = 36;
 
-fn put_block(out: &mut Vec<u8>, version: Version, text: &Block) -> Result<(), AllocError>
-    ensures ok { OnOk result (out.new.items ≡ out.old.items ++ block version text.now) }
+/// Appends the block of a group at an index, whose digest is computed only where the group does not know it.
+fn put_block(
+    out: &mut Vec<u8>,
+    version: Version,
+    text: &Group,
+    index: usize,
+) -> Result<(), AllocError>
+    requires { index < length text.now }
+    ensures ok { OnOk result (out.new.items ≡ out.old.items ++ block version (get_or text.now index [])) }
     ensures kept { Keeps out.old.items out.new.items }
 {
-    let bytes = text.as_slice();
+    let bytes = text.blocks()[index].as_slice();
     put_u32(out, bytes.len() as u32)?;
     put_bytes(out, bytes)?;
     match version {
         Version::V1 => Ok(()),
-        Version::V2 => put_bytes(out, &Sha256::digest(bytes)),
+        Version::V2 => put_bytes(out, &text.digest(index)),
     }
 }
 
 #[tactic(auto, unfolding(crate::specs::Record::number))]
-fn put_group(out: &mut Vec<u8>, version: Version, blocks: &[Block]) -> Result<(), AllocError>
-    requires { IsGroup blocks.now }
-    ensures ok { OnOk result (out.new.items ≡ out.old.items ++ group version blocks.now) }
+fn put_group(out: &mut Vec<u8>, version: Version, text: &Group) -> Result<(), AllocError>
+    ensures ok { OnOk result (out.new.items ≡ out.old.items ++ group version text.now) }
     ensures kept { Keeps out.old.items out.new.items }
 {
-    put_u8(out, blocks.len() as u8)?;
-    for text in blocks {
-        put_block(out, version, text)?;
+    let count = text.blocks().len();
+    put_u8(out, count as u8)?;
+    for index in 0..count {
+        put_block(out, version, text, index)?;
     }
     Ok(())
 }
@@ -50,7 +55,7 @@ fn put_groups(out: &mut Vec<u8>, version: Version, all: &[Group]) -> Result<(), 
 {
     put_u32(out, all.len() as u32)?;
     for one in all {
-        put_group(out, version, one.blocks())?;
+        put_group(out, version, one)?;
     }
     Ok(())
 }
@@ -96,7 +101,7 @@ fn put_append(
     put_u8(out, 2)?;
     put_u64(out, extent)?;
     put_u32(out, offset)?;
-    put_group(out, version, text.blocks())
+    put_group(out, version, text)
 }
 
 fn put_fence(out: &mut Vec<u8>, extent: u64, generation: u64) -> Result<(), AllocError>

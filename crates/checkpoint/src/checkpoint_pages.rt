@@ -6,7 +6,7 @@ ghost use Rattle.checkpoint_format.specs.Index.{IsIndex, fits_a_group};
 ghost use Rattle.checkpoint.specs.PageGroups as specs;
 
 use crate::combination::has_place;
-use block_types::{Block, Group};
+use block_types::Group;
 use bytes::Bytes;
 use checkpoint_format::{Index, Page, PageAt, PageList, write_pages};
 use memtable::{Cell, Place};
@@ -51,13 +51,13 @@ impl Model for CheckpointPages {
 const MAX_PAGES: usize = 64;
 
 /// Pages of which each is a block, as the blocks of a group.
-fn blocks_of(alloc: Global, pages: &[Page]) -> Result<Vec<Block>, AllocError>
+fn blocks_of(alloc: Global, pages: &[Page]) -> Result<Vec<Bytes>, AllocError>
     requires { AllByRecursion specs.HasBlock pages.now }
     ensures { IfOk result (λ blocks. blocks.items ≡ specs.page_group pages.now) }
 {
     let mut blocks = Vec::with_capacity(alloc, pages.len())?;
     for page in pages {
-        blocks.push(Block::of(page.bytes.clone()?))?;
+        blocks.push(page.bytes.clone()?)?;
     }
     Ok(blocks)
 }

@@ -1,8 +1,13 @@
 //! What a look-up answers.
-ghost use Rattle.std.specs.Prelude.{◌≡◌};
+ghost use Rattle.std.specs.Prelude.{◌≡◌, Some, IfOk, option_copied};
+ghost use Rattle.memtable.specs.declared.cell.Place.{Place};
 ghost use Rattle.checkpoint.specs.Lookup as specs;
 
+use block_types::BlockFault;
+use bytes::Bytes;
+use checkpoint_format::{ReadPage, find_in};
 use memtable::{Cell, Place};
+use std::alloc::AllocError;
 
 /// What a look-up in the pages of checkpoints answers.
 pub enum Lookup {
@@ -33,6 +38,40 @@ impl Lookup {
         match &cell {
             Cell::Deleted => Lookup::Absent,
             _ => Lookup::Found(cell),
+        }
+    }
+
+    /// What a page says of a key, if it has the key. It is found by halves.
+    ///
+    /// An error is out of memory (22), and says nothing of the key.
+    pub fn in_page(page: &ReadPage, key: &[u8]) -> Result<Option<Lookup>, AllocError>
+        ensures { (place : Place) → IfOk result (λ found. found ≡ specs.in_bytes place key.now (Some page.now)) }
+    {
+        match page.find(key)? {
+            Some(cell) => Ok(Some(Lookup::of(cell))),
+            None => Ok(None),
+        }
+    }
+
+    /// What the bytes at a place say of a key, if they have the key, are no page's or are not at hand. It walks through all of
+    /// them.
+    ///
+    /// An error is out of memory (22), and says nothing of the key.
+    pub fn in_bytes(
+        place: &Place,
+        bytes: Option<&Bytes>,
+        key: &[u8],
+    ) -> Result<Option<Lookup>, AllocError>
+        ensures { IfOk result (λ found. found ≡ specs.in_bytes place.now key.now (option_copied bytes.entry)) }
+    {
+        let Some(page) = bytes else {
+            return Ok(Some(Lookup::Need(*place)));
+        };
+        match find_in(page, key) {
+            Ok(Some(cell)) => Ok(Some(Lookup::of(cell))),
+            Ok(None) => Ok(None),
+            Err(BlockFault::Damaged) => Ok(Some(Lookup::Need(*place))),
+            Err(BlockFault::Memory) => Err(AllocError),
         }
     }
 }

@@ -7,9 +7,7 @@ ghost use Rattle.checkpoint.specs.Lookup as specs;
 use crate::installed_index::InstalledIndex;
 use crate::page_lookup::Lookup;
 use crate::pages::Pages;
-use block_types::BlockFault;
-use bytes::Bytes;
-use checkpoint_format::{Index, PageAt, find_in};
+use checkpoint_format::{Index, PageAt};
 use memtable::Place;
 use std::alloc::AllocError;
 
@@ -28,18 +26,6 @@ pub fn page_for(pages: &[PageAt], key: &[u8]) -> Option<Place>
     }
 }
 
-/// What the page at a place says of the key, if it has the key or is no page.
-fn in_page(place: Place, page: &Bytes, key: &[u8]) -> Result<Option<Lookup>, AllocError>
-    ensures { IfOk result (λ found. found ≡ specs.in_bytes place key.now (Some page.now)) }
-{
-    match find_in(page, key) {
-        Ok(Some(cell)) => Ok(Some(Lookup::of(cell))),
-        Ok(None) => Ok(None),
-        Err(BlockFault::Damaged) => Ok(Some(Lookup::Need(place))),
-        Err(BlockFault::Memory) => Err(AllocError),
-    }
-}
-
 /// What one index says of the key, if its page has the key or is wanted.
 fn in_index<P: Pages>(pages: &P, index: &Index, key: &[u8]) -> Result<Option<Lookup>, AllocError>
     requires { IsIndex index.now }
@@ -48,10 +34,7 @@ fn in_index<P: Pages>(pages: &P, index: &Index, key: &[u8]) -> Result<Option<Loo
     let Some(place) = page_for(&index.pages.items, key) else {
         return Ok(None);
     };
-    match pages.page(&place) {
-        None => Ok(Some(Lookup::Need(place))),
-        Some(page) => in_page(place, page, key),
-    }
+    pages.find_at(&place, key)
 }
 
 /// What the indexes say of the key, the newest first, each within its keys alone: the cell of the first that has the key, or that

@@ -3,3 +3,4 @@ pub mod Walk
 pub mod Writing
 pub mod Indexes
 pub mod Pages
+pub mod Starts

@@ -1,5 +1,5 @@
 //! The entries of a page: reading them with no memory, and writing them.
-ghost use Rattle.std.specs.Prelude.{◌≡◌, ◌<◌, ◌++◌, ℕ, slice_index, Some, IfOk, IfErr, OnOk};
+ghost use Rattle.std.specs.Prelude.{◌≡◌, ◌<◌, ◌++◌, ℕ, slice_index, Some, IfOk, IfErr, OnOk, drop};
 ghost use Rattle.block_types.specs.Limits.{is_within};
 ghost use Rattle.blocks.specs.Format.{Gives, IsEndOf};
 ghost use Rattle.commitlog.specs.Reading.{counted_at, is_small};
@@ -9,8 +9,9 @@ ghost use Rattle.metadata.specs.Record.{place as place_bytes};
 ghost use Rattle.memtable.specs.Cell.{IsEntry, IsCell};
 ghost use Rattle.memtable.specs.Limits.{IsKey};
 ghost use Rattle.checkpoint_format.specs.Page.{cell_bytes, entry_bytes, large_place_at, fields_at, cell_at, entry_at};
-ghost use Rattle.checkpoint_format.specs.Walk.{part_cell, part_entry, count_at};
+ghost use Rattle.checkpoint_format.specs.Walk.{part_cell, part_entry, count_at, IsEntryOf};
 ghost use Rattle.checkpoint_format.specs.Walk as specs;
+ghost use Rattle.checkpoint_format.specs.Starts as starts;
 
 use block_types::{BlockFault, MAX_BLOCK};
 use blocks::reader::{bytes_of, u16_at, u32_at, u64_at};
@@ -179,6 +180,34 @@ pub(crate) fn entry_above<'a>(last: &[u8], bytes: &'a [u8]) -> Result<EntryPart<
         return Err(BlockFault::Damaged);
     }
     Ok(entry)
+}
+
+/// The bytes of a page from a place on.
+fn part_from(page: &[u8], start: u16) -> &[u8]
+    ensures { result.now ≡ drop start page.now }
+{
+    let start = usize::from(start).min(page.len());
+    &page[start..]
+}
+
+/// The key that begins at a place of a page.
+pub(crate) fn key_from(page: &[u8], start: u16) -> Result<&[u8], BlockFault>
+    ensures read { Gives (λ key. key.now) result (starts.key_from page.now start) }
+    ensures fault { IfErr result (λ e. e ≡ BlockFault.Damaged) }
+{
+    match key_of(part_from(page, start)) {
+        Ok((key, _)) => Ok(key),
+        Err(fault) => Err(fault),
+    }
+}
+
+/// The entry that begins at a place of a page.
+pub(crate) fn entry_from(page: &[u8], start: u16) -> Result<EntryPart<'_>, BlockFault>
+    ensures read { Gives part_entry result (starts.entry_from page.now start) }
+    ensures part { IfOk result (IsEntryOf page.now) }
+    ensures fault { IfErr result (λ e. e ≡ BlockFault.Damaged) }
+{
+    entry_of(part_from(page, start))
 }
 
 /// How many entries a page has, and the bytes after that.

@@ -78,7 +78,7 @@ fn shared_entry(page: &Bytes, entry: &EntryPart<'_>) -> Result<(Bytes, Cell), Al
 }
 
 /// The cell that was found before, or else that of the entry if it is at the key.
-fn found_or(
+pub(crate) fn found_or(
     page: &Bytes,
     cell: Option<Cell>,
     entry: &EntryPart<'_>,

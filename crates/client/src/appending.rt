@@ -6,8 +6,9 @@ ghost use Rattle.client.specs.Began.{Begins};
 use crate::client::{StreamClient, is_idle, last};
 use crate::fault::ClientFault;
 use crate::job::Job;
+use crate::pending::PendingBlocks;
 use crate::sending::sent_append;
-use std::alloc::{AllocError, Global};
+use std::alloc::AllocError;
 use std::marker::Model;
 use wire::{Blocks, Packet, ReqNo, StreamExtent};
 
@@ -29,13 +30,13 @@ impl Model for Appending {
 }
 
 impl Appending {
-    /// An append of these blocks, whose bytes it shares. An error is out of memory (22).
-    pub fn of(alloc: Global, blocks: &Blocks) -> Result<Appending, AllocError>
+    /// An append of these blocks, whose list it shares. An error is out of memory (22).
+    pub fn of(blocks: &Blocks) -> Result<Appending, AllocError>
         ensures { IfOk result (λ a. a ≡ blocks.now) }
     {
         Ok(Appending {
-            sent: blocks.copy(alloc)?,
-            group: blocks.copy(alloc)?,
+            sent: blocks.copy()?,
+            group: blocks.copy()?,
         })
     }
 }
@@ -53,7 +54,7 @@ impl StreamClient {
             return Err(ClientFault::Busy);
         }
         let Appending { sent, group } = appending;
-        self.group = group;
+        self.group = PendingBlocks::of(group);
         match last(&self.extents) {
             None => Ok(self.grow(&None, request)),
             Some(extent) => Ok(self.append_behind(request, sent, &extent)),

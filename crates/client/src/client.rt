@@ -7,14 +7,13 @@ ghost use Rattle.client.specs.declared.job.News.TheVariants as news;
 
 use crate::fault::ClientFault;
 use crate::job::{Job, Place, Reaction};
+use crate::pending::PendingBlocks;
 use crate::replies::reply;
 use crate::sending::{check_packet, extend_packet, next_place, node_at, read_packet, seal_packet};
 use block_types::Nodes;
 use std::alloc::{AllocError, Global};
 use std::marker::Model;
-use wire::{
-    Blocks, ExtentId, Fence, Packet, ReqNo, ServerNo, StreamExtent, StreamList, StreamName,
-};
+use wire::{ExtentId, Fence, Packet, ReqNo, ServerNo, StreamExtent, StreamList, StreamName};
 
 /// What a server knows of one of its streams under a generation, and the one request that it has out on it.
 pub struct StreamClient {
@@ -30,7 +29,7 @@ pub struct StreamClient {
     pub checked: Option<u32>,
     /// The nodes at which a new extent is asked for, the primary first.
     pub pick: Nodes,
-    pub(crate) group: Blocks,
+    pub(crate) group: PendingBlocks,
     /// What is waited for.
     pub job: Job,
 }
@@ -102,9 +101,7 @@ impl StreamClient {
             extents,
             checked: None,
             pick,
-            group: Blocks {
-                items: Vec::new(alloc),
-            },
+            group: PendingBlocks::none(),
             job: Job::Idle,
         })
     }

@@ -8,9 +8,9 @@ ghost use Rattle.client.specs.declared.job.News.TheVariants as news;
 
 use crate::client::StreamClient;
 use crate::job::Job;
+use crate::pending::PendingBlocks;
 use crate::replies::awaits;
-use std::alloc::Global;
-use wire::{Blocks, Body, ExtentId, ReadBody};
+use wire::{Body, ExtentId, ReadBody};
 
 /// The extent whose groups are asked for, and how far.
 fn reading(job: Job) -> Option<(ExtentId, u32)>
@@ -44,12 +44,10 @@ impl StreamClient {
     }
 
     /// Nothing is waited for any more: the answer was taken by its content.
-    pub fn end_read(&mut self, alloc: Global)
+    pub fn end_read(&mut self)
         ensures { self.new ≡ record self.old { job = jobs.Idle; group = [] } }
     {
         self.job = Job::Idle;
-        self.group = Blocks {
-            items: Vec::new(alloc),
-        };
+        self.group = PendingBlocks::none();
     }
 }

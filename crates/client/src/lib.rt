@@ -14,6 +14,7 @@ mod fault;
 mod job;
 mod known;
 mod load;
+mod pending;
 mod replies;
 mod sending;
 

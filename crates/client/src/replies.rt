@@ -5,12 +5,13 @@ ghost use Rattle.wire.specs.declared.refusal.Refusal.TheVariants as refusals;
 
 use crate::client::StreamClient;
 use crate::job::{Job, News, Reaction};
+use crate::pending::PendingBlocks;
 use crate::sending::sent_append;
 use block_types::Nodes;
 use std::alloc::{AllocError, Global};
 use wire::{
-    AppendBody, Blocks, Body, CheckBody, ExtentId, Packet, ReadBody, Refusal, ReqNo, SealBody,
-    StreamBody, StreamExtent,
+    AppendBody, Body, CheckBody, ExtentId, Packet, ReadBody, Refusal, ReqNo, SealBody, StreamBody,
+    StreamExtent,
 };
 
 /// Whether an answer of this number is waited for.
@@ -51,13 +52,11 @@ fn seal_last(extents: &mut Vec<StreamExtent>, length: u32)
 }
 
 /// Nothing is waited for any more.
-fn end(client: &mut StreamClient, alloc: Global, told: News) -> Reaction
+fn end(client: &mut StreamClient, told: News) -> Reaction
     ensures { ends client.old told ≡ record { after = client.new; packet = result.packet; news = result.news } }
 {
     client.job = Job::Idle;
-    client.group = Blocks {
-        items: Vec::new(alloc),
-    };
+    client.group = PendingBlocks::none();
     Reaction {
         packet: None,
         news: Some(told),
@@ -93,33 +92,28 @@ fn left(client: &mut StreamClient, request: &ReqNo) -> Reaction
     }
 }
 
-fn refused(client: &mut StreamClient, alloc: Global, request: &ReqNo, refusal: Refusal) -> Reaction
+fn refused(client: &mut StreamClient, request: &ReqNo, refusal: Refusal) -> Reaction
     ensures { refused_job client.old request.now refusal client.old.job ≡ record { after = client.new; packet = result.packet; news = result.news } }
 {
     match refusal {
-        Refusal::Stale => end(client, alloc, News::Fenced),
+        Refusal::Stale => end(client, News::Fenced),
         Refusal::NotOpen => left(client, request),
         Refusal::ExtentFull => left(client, request),
         _ => stays(client),
     }
 }
 
-fn appended(client: &mut StreamClient, alloc: Global, offset: u32) -> Reaction
+fn appended(client: &mut StreamClient, offset: u32) -> Reaction
     ensures { appended_job client.old offset client.old.job ≡ record { after = client.new; packet = result.packet; news = result.news } }
 {
     let job = client.job;
     match job {
-        Job::Sent { extent, .. } => end(client, alloc, News::Appended { extent, offset }),
+        Job::Sent { extent, .. } => end(client, News::Appended { extent, offset }),
         _ => stays(client),
     }
 }
 
-fn append_reply(
-    client: &mut StreamClient,
-    alloc: Global,
-    request: &ReqNo,
-    body: &AppendBody,
-) -> Reaction
+fn append_reply(client: &mut StreamClient, request: &ReqNo, body: &AppendBody) -> Reaction
     ensures { append_reply client.old request.now body.now ≡ record { after = client.new; packet = result.packet; news = result.news } }
 {
     match body {
@@ -131,7 +125,7 @@ fn append_reply(
             if !awaits(client.job, answered) {
                 return stays(client);
             }
-            appended(client, alloc, *offset)
+            appended(client, *offset)
         }
         AppendBody::Refused {
             request: answered,
@@ -140,19 +134,14 @@ fn append_reply(
             if !awaits(client.job, answered) {
                 return stays(client);
             }
-            refused(client, alloc, request, *refusal)
+            refused(client, request, *refusal)
         }
         _ => stays(client),
     }
 }
 
 /// The check found a length, or the extent is sealed.
-fn checked(
-    client: &mut StreamClient,
-    alloc: Global,
-    request: &ReqNo,
-    found: Option<u32>,
-) -> Reaction
+fn checked(client: &mut StreamClient, request: &ReqNo, found: Option<u32>) -> Reaction
     ensures { checked_job client.old request.now found client.old.job ≡ record { after = client.new; packet = result.packet; news = result.news } }
 {
     let job = client.job;
@@ -161,19 +150,14 @@ fn checked(
             None => asks(client.shut(extent, request)),
             Some(length) => {
                 client.checked = Some(length);
-                end(client, alloc, News::Checked { extent, length })
+                end(client, News::Checked { extent, length })
             }
         },
         _ => stays(client),
     }
 }
 
-fn check_reply(
-    client: &mut StreamClient,
-    alloc: Global,
-    request: &ReqNo,
-    body: &CheckBody,
-) -> Reaction
+fn check_reply(client: &mut StreamClient, request: &ReqNo, body: &CheckBody) -> Reaction
     ensures { check_reply client.old request.now body.now ≡ record { after = client.new; packet = result.packet; news = result.news } }
 {
     match body {
@@ -184,14 +168,14 @@ fn check_reply(
             if !awaits(client.job, answered) {
                 return stays(client);
             }
-            checked(client, alloc, request, *length)
+            checked(client, request, *length)
         }
         _ => stays(client),
     }
 }
 
 /// The last extent is sealed: an append goes on after it, and a check is over.
-fn sealed(client: &mut StreamClient, alloc: Global, request: &ReqNo, length: u32) -> Reaction
+fn sealed(client: &mut StreamClient, request: &ReqNo, length: u32) -> Reaction
     ensures { sealed_job client.old request.now length client.old.job ≡ record { after = client.new; packet = result.packet; news = result.news } }
 {
     let job = client.job;
@@ -202,18 +186,13 @@ fn sealed(client: &mut StreamClient, alloc: Global, request: &ReqNo, length: u32
         }
         Job::Shutting { extent, .. } => {
             seal_last(&mut client.extents, length);
-            end(client, alloc, News::Sealed { extent, length })
+            end(client, News::Sealed { extent, length })
         }
         _ => stays(client),
     }
 }
 
-fn seal_reply(
-    client: &mut StreamClient,
-    alloc: Global,
-    request: &ReqNo,
-    body: &SealBody,
-) -> Reaction
+fn seal_reply(client: &mut StreamClient, request: &ReqNo, body: &SealBody) -> Reaction
     ensures { seal_reply client.old request.now body.now ≡ record { after = client.new; packet = result.packet; news = result.news } }
 {
     match body {
@@ -225,23 +204,23 @@ fn seal_reply(
             if !awaits(client.job, answered) {
                 return stays(client);
             }
-            sealed(client, alloc, request, *length)
+            sealed(client, request, *length)
         }
         _ => stays(client),
     }
 }
 
-fn groups(client: &mut StreamClient, alloc: Global) -> Reaction
+fn groups(client: &mut StreamClient) -> Reaction
     ensures { groups_job client.old client.old.job ≡ record { after = client.new; packet = result.packet; news = result.news } }
 {
     let job = client.job;
     match job {
-        Job::Reading { extent, upto, .. } => end(client, alloc, News::Content { extent, upto }),
+        Job::Reading { extent, upto, .. } => end(client, News::Content { extent, upto }),
         _ => stays(client),
     }
 }
 
-fn read_reply(client: &mut StreamClient, alloc: Global, body: &ReadBody) -> Reaction
+fn read_reply(client: &mut StreamClient, body: &ReadBody) -> Reaction
     ensures { read_reply client.old body.now ≡ record { after = client.new; packet = result.packet; news = result.news } }
 {
     match body {
@@ -252,7 +231,7 @@ fn read_reply(client: &mut StreamClient, alloc: Global, body: &ReadBody) -> Reac
             if !awaits(client.job, answered) {
                 return stays(client);
             }
-            groups(client, alloc)
+            groups(client)
         }
         _ => stays(client),
     }
@@ -367,10 +346,10 @@ pub(crate) fn reply(
     ensures needed { OnErr result (needs_memory body.now ≡ true) }
 {
     match body {
-        Body::Append(body) => Ok(append_reply(client, alloc, request, body)),
-        Body::Check(body) => Ok(check_reply(client, alloc, request, body)),
-        Body::Seal(body) => Ok(seal_reply(client, alloc, request, body)),
-        Body::Read(body) => Ok(read_reply(client, alloc, body)),
+        Body::Append(body) => Ok(append_reply(client, request, body)),
+        Body::Check(body) => Ok(check_reply(client, request, body)),
+        Body::Seal(body) => Ok(seal_reply(client, request, body)),
+        Body::Read(body) => Ok(read_reply(client, body)),
         Body::Stream(body) => stream_reply(client, alloc, request, body),
         _ => Ok(stays(client)),
     }

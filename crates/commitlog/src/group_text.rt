@@ -5,8 +5,9 @@ ghost use Rattle.commitlog.specs.Record.{transaction_values, transaction_bytes, 
 ghost use Rattle.commitlog.specs.Sizes.{HasRoom};
 
 use crate::writing::{pieces_of, put_transaction, put_values};
-use block_types::{Block, Group, MAX_BLOCK, MAX_BLOCKS};
+use block_types::{Group, MAX_BLOCK, MAX_BLOCKS};
 use blocks::writer::{put_u16, put_u32, put_u64};
+use bytes::Bytes;
 use std::alloc::{AllocError, Global};
 use std::marker::Model;
 use wire::Change;
@@ -20,7 +21,7 @@ pub struct GroupText {
     /// The bytes of the transactions, without what stands before them.
     text: Vec<u8>,
     /// Their large values, a block each, which share their buffers.
-    values: Vec<Block>,
+    values: Vec<Bytes>,
     count: usize,
     /// Where a transaction is encoded before it is known to fit, kept for the next one.
     scratch: Vec<u8>,
@@ -63,7 +64,7 @@ fn has_room(size: usize, values: u32) -> bool
 /// runs out neither has changed.
 fn take(
     text: &mut Vec<u8>,
-    values: &mut Vec<Block>,
+    values: &mut Vec<Bytes>,
     encoded: &mut Vec<u8>,
     changes: &[Change],
 ) -> Result<(), AllocError>

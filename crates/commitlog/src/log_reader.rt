@@ -8,13 +8,14 @@ ghost use Rattle.commitlog.specs.Reading.{record_at};
 use crate::log_record::LogRecord;
 use crate::reading::record_of;
 use block_types::{Block, BlockFault, MAX_BLOCKS};
+use bytes::Bytes;
 use std::alloc::{AllocError, Global};
 use std::marker::Model;
 
 /// The blocks of a group as they come, whose bytes it shares. Its value is the list of the blocks that were fed.
 #[derive(Drop)]
 pub struct LogReader {
-    blocks: Vec<Block>,
+    blocks: Vec<Bytes>,
 }
 
 impl Model for LogReader {
@@ -40,8 +41,7 @@ impl LogReader {
         ensures ok { OnOk result (self.new ≡ self.old ++ block.now ∷ []) }
         ensures err { OnErr result (self.new ≡ self.old) }
     {
-        let bytes = block.share()?;
-        self.blocks.push(Block::of(bytes))?;
+        self.blocks.push(block.share()?)?;
         Ok(())
     }
 

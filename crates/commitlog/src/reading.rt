@@ -9,7 +9,7 @@ ghost use Rattle.commitlog.specs.Reading.{counted_at, is_small, large_at, fields
 use crate::log_record::{LogRecord, Transactions};
 use crate::text_cell::{TextCell, TextChanges};
 use crate::values::transactions_of;
-use block_types::{Block, BlockFault, Group, MAX_BLOCK};
+use block_types::{BlockFault, Group, MAX_BLOCK};
 use blocks::reader::{ended, u8_at, u16_at, u32_at, u64_at};
 use bytes::Bytes;
 use memtable::{MAX_BATCH, MAX_CHANGES, MAX_INLINE, MAX_KEY, MAX_VALUE};
@@ -199,7 +199,7 @@ fn text_of(alloc: Global, bytes: &[u8]) -> Result<(u64, Vec<TextChanges>), Block
     ended(read, rest)
 }
 
-fn piece_of(size: usize, blocks: &[Block]) -> Result<(&[u8], &[Block]), BlockFault>
+fn piece_of(size: usize, blocks: &[Bytes]) -> Result<(&[u8], &[Bytes]), BlockFault>
     ensures { Gives (λ x. (x.0.now, x.1.now)) result (piece_at 65536 size blocks.now) }
 {
     match blocks {
@@ -215,7 +215,7 @@ fn piece_of(size: usize, blocks: &[Block]) -> Result<(&[u8], &[Block]), BlockFau
     }
 }
 
-fn pieces_of(alloc: Global, size: u32, blocks: &[Block]) -> Result<(Vec<u8>, &[Block]), BlockFault>
+fn pieces_of(alloc: Global, size: u32, blocks: &[Bytes]) -> Result<(Vec<u8>, &[Bytes]), BlockFault>
     ensures { Gives (λ x. (x.0.items, x.1.now)) result (joined 65536 (piece_count size) size blocks.now) }
 {
     let count = (size as usize + (MAX_BLOCK as usize - 1)) / MAX_BLOCK as usize;
@@ -233,7 +233,7 @@ fn pieces_of(alloc: Global, size: u32, blocks: &[Block]) -> Result<(Vec<u8>, &[B
 
 /// The text, whose first four bytes say how long it is, and the blocks after it.
 #[tactic(auto, unfolding(crate::specs::Reading::joined_at))]
-fn joined_of(alloc: Global, blocks: &[Block]) -> Result<(Vec<u8>, &[Block]), BlockFault>
+fn joined_of(alloc: Global, blocks: &[Bytes]) -> Result<(Vec<u8>, &[Bytes]), BlockFault>
     ensures { Gives (λ x. (x.0.items, x.1.now)) result (joined_at blocks.now) }
 {
     match blocks {
@@ -248,7 +248,7 @@ fn joined_of(alloc: Global, blocks: &[Block]) -> Result<(Vec<u8>, &[Block]), Blo
 }
 
 #[tactic(auto, unfolding(crate::specs::Reading::record_at))]
-pub(crate) fn record_of(alloc: Global, blocks: &[Block]) -> Result<LogRecord, BlockFault>
+pub(crate) fn record_of(alloc: Global, blocks: &[Bytes]) -> Result<LogRecord, BlockFault>
     ensures read { Gives (λ r. r) result (record_at blocks.now) }
 
     // The text is bytes.

@@ -4,7 +4,7 @@ ghost use Rattle.blocks.specs.Format.{Gives};
 ghost use Rattle.commitlog.specs.Reading.{value_at, change_of as change_from, changes_of as changes_from, each_of, transactions_of as transactions_from};
 
 use crate::text_cell::{TextCell, TextChanges};
-use block_types::{Block, BlockFault};
+use block_types::BlockFault;
 use bytes::Bytes;
 use std::alloc::Global;
 use wire::{Change, Changes};
@@ -12,18 +12,18 @@ use wire::{Change, Changes};
 /// The value in the next block, which has to have this number and this size.
 fn large_of(
     total: usize,
-    blocks: &[Block],
+    blocks: &[Bytes],
     number: u8,
     size: u32,
-) -> Result<(Option<Bytes>, &[Block]), BlockFault>
+) -> Result<(Option<Bytes>, &[Bytes]), BlockFault>
     ensures { Gives (λ x. (x.0, x.1.now)) result (value_at total blocks.now (TextCell.Large number size)) }
 {
     match blocks {
         [] => Err(BlockFault::Damaged),
         [first, rest @ ..] => {
-            let length = first.as_slice().len();
+            let length = first.len();
             if number as usize + blocks.len() == total && length == size as usize {
-                Ok((Some(first.share()?), rest))
+                Ok((Some(first.clone()?), rest))
             } else {
                 Err(BlockFault::Damaged)
             }
@@ -33,9 +33,9 @@ fn large_of(
 
 fn value_of<'a>(
     total: usize,
-    blocks: &'a [Block],
+    blocks: &'a [Bytes],
     cell: &TextCell,
-) -> Result<(Option<Bytes>, &'a [Block]), BlockFault>
+) -> Result<(Option<Bytes>, &'a [Bytes]), BlockFault>
     ensures { Gives (λ x. (x.0, x.1.now)) result (value_at total blocks.now cell.now) }
 {
     match cell {
@@ -47,10 +47,10 @@ fn value_of<'a>(
 
 fn change_of<'a>(
     total: usize,
-    blocks: &'a [Block],
+    blocks: &'a [Bytes],
     key: &Bytes,
     cell: &TextCell,
-) -> Result<(Change, &'a [Block]), BlockFault>
+) -> Result<(Change, &'a [Bytes]), BlockFault>
     ensures { Gives (λ x. (x.0, x.1.now)) result (change_from total blocks.now (key.now, cell.now)) }
 {
     let (value, rest) = value_of(total, blocks, cell)?;
@@ -61,9 +61,9 @@ fn change_of<'a>(
 fn changes_of<'a>(
     alloc: Global,
     total: usize,
-    blocks: &'a [Block],
+    blocks: &'a [Bytes],
     items: &[(Bytes, TextCell)],
-) -> Result<(Vec<Change>, &'a [Block]), BlockFault>
+) -> Result<(Vec<Change>, &'a [Bytes]), BlockFault>
     ensures { Gives (λ x. (x.0.items, x.1.now)) result (changes_from total blocks.now items.now) }
 {
     let mut made = Vec::with_capacity(alloc, items.len())?;
@@ -78,9 +78,9 @@ fn changes_of<'a>(
 
 fn all_transactions_of<'a>(
     alloc: Global,
-    blocks: &'a [Block],
+    blocks: &'a [Bytes],
     items: &[TextChanges],
-) -> Result<(Vec<Changes>, &'a [Block]), BlockFault>
+) -> Result<(Vec<Changes>, &'a [Bytes]), BlockFault>
     ensures { Gives (λ x. (x.0.items, x.1.now)) result
         (each_of (changes_from (length blocks.now)) blocks.now items.now) }
 {
@@ -98,7 +98,7 @@ fn all_transactions_of<'a>(
 #[tactic(auto, unfolding(crate::specs::Reading::transactions_of))]
 pub(crate) fn transactions_of(
     alloc: Global,
-    blocks: &[Block],
+    blocks: &[Bytes],
     items: &[TextChanges],
 ) -> Result<Vec<Changes>, BlockFault>
     ensures { Gives (λ x. x.items) result (transactions_from blocks.now items.now) }

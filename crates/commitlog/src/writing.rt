@@ -6,7 +6,7 @@ ghost use Rattle.commitlog.specs.Sizes.{HasRoom};
 
 use crate::group_text::GroupText;
 use crate::log_record::LogRecord;
-use block_types::{Block, Group, MAX_BLOCK};
+use block_types::{Group, MAX_BLOCK};
 use blocks::writer::{put_bytes, put_u8, put_u16, put_u32};
 use bytes::Bytes;
 use memtable::is_large;
@@ -83,7 +83,7 @@ pub(crate) fn put_transaction(
 }
 
 /// The pieces of a text, each but the last of 65,536 bytes, which share its buffer. An error is out of memory (22).
-pub fn pieces_of(alloc: Global, text: Vec<u8>) -> Result<Vec<Block>, AllocError>
+pub fn pieces_of(alloc: Global, text: Vec<u8>) -> Result<Vec<Bytes>, AllocError>
     ensures { IfOk result (λ made. made.items ≡ pieces text.items) }
 {
     let count = (text.len() + (MAX_BLOCK as usize - 1)) / MAX_BLOCK as usize;
@@ -91,13 +91,13 @@ pub fn pieces_of(alloc: Global, text: Vec<u8>) -> Result<Vec<Block>, AllocError>
     let mut made = Vec::with_capacity(alloc, count)?;
     for _ in 0..count {
         let end = rest.len().min(MAX_BLOCK as usize);
-        made.push(Block::of(rest.split_to(end)?))?;
+        made.push(rest.split_to(end)?)?;
     }
     Ok(made)
 }
 
 /// Adds the large value of a change, which shares its buffer.
-fn put_value(out: &mut Vec<Block>, value: &Option<Bytes>) -> Result<(), AllocError>
+fn put_value(out: &mut Vec<Bytes>, value: &Option<Bytes>) -> Result<(), AllocError>
     requires { HasValue value.now }
     ensures { OnOk result (out.new.items ≡ out.old.items ++ large value.now) }
 {
@@ -107,13 +107,13 @@ fn put_value(out: &mut Vec<Block>, value: &Option<Bytes>) -> Result<(), AllocErr
             if !is_large(value) {
                 return Ok(());
             }
-            out.push(Block::of(value.clone()?))?;
+            out.push(value.clone()?)?;
             Ok(())
         }
     }
 }
 
-pub(crate) fn put_values(out: &mut Vec<Block>, changes: &[Change]) -> Result<(), AllocError>
+pub(crate) fn put_values(out: &mut Vec<Bytes>, changes: &[Change]) -> Result<(), AllocError>
     requires { AllByRecursion IsChange changes.now }
     ensures { OnOk result (out.new.items ≡ out.old.items ++ transaction_values changes.now) }
 {

@@ -1,6 +1,6 @@
 pub mod Moments
 pub mod Images
-pub mod Aside
+pub mod Undoing
 pub mod Crash
 pub mod Files
 pub mod Appending

@@ -1,5 +1,5 @@
 -- The bytes of a disk in memory, and what a crash may do to them.
-use Rattle.std.specs.Prelude.{◌≡◌, ◌⊎◌, ℕ, ◌≤◌, Bool, Option, List, ◌++◌, length, take, min, nat_le, if◌then◌else◌}
+use Rattle.std.specs.Prelude.{◌≡◌, ◌⊎◌, ℕ, ◌+◌, ◌-◌, ◌≤◌, Bool, Option, List, ◌++◌, length, take, drop, min, nat_le, if◌then◌else◌}
 use Rattle.disk.specs.Disk.{DiskState}
 use Rattle.disk.specs.History.{Event, failures_in, HeldSince}
 
@@ -10,9 +10,17 @@ pub record ImageBytes : Type 0 where
   pub seen_room : ℕ
   pub synced_room : ℕ
 
--- what the last sync has made sure of: the first n bytes that are there, and after them what was there before
-abbrev pub synced_of : ℕ → List ℕ → List ℕ → List ℕ
-synced_of n seen old = take n seen ++ old
+-- a list with these bytes in the place of those from one place on
+abbrev pub put_at : ℕ → List ℕ → List ℕ → List ℕ
+put_at at bytes held = take at held ++ bytes ++ drop (at + length bytes) held
+
+-- what the last sync has made sure of: the first n bytes that are there, with one stretch of them as it was before
+abbrev pub synced_of : ℕ → ℕ → List ℕ → List ℕ → List ℕ
+synced_of n at old seen = put_at at old (take n seen)
+
+-- of the first n bytes a write of so many at a place changes none but those of a stretch, which begins at a place and is so long
+abbrev pub Covers : ℕ → ℕ → ℕ → ℕ → ℕ → Type 0
+Covers at long n from count = (n ≤ from) ⊎ ((at ≤ from) × (from + min count (n - from) ≤ at + long))
 
 -- neither list has lost room
 pub record KeepsRoom (old new : ImageBytes) : Type 0 where

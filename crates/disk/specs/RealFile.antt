@@ -22,6 +22,10 @@ pub record IsNew {F : Type 0} (disk : FileDisk F) : Type 0 where
 abbrev pub IsWhole : {F : Type 0} → FileDisk F → Type 0
 IsWhole disk = disk.broken ≡ false → length (file_state disk).seen ≤ disk.size
 
+-- a file that does not grow ahead ends where the image ends, unless it has failed
+abbrev pub IsExact : {F : Type 0} → FileDisk F → Type 0
+IsExact disk = (disk.ahead ≡ false) × (disk.broken ≡ false → disk.size ≡ length (file_state disk).seen)
+
 -- a call that fails breaks the disk, and no call of a broken one succeeds
 pub record StaysBroken {F T : Type 0} (old new : FileDisk F) (result : Result T DiskFault) : Type 0 where
   pub breaks : IsErrOf result Failed → new.broken ≡ true

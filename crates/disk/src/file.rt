@@ -144,11 +144,38 @@ impl<D: Disk> RecordFile<D> {
             (λ file. (D.state disk).failures ≤ (D.state file.disk).failures)
             (λ e. e.0 ≡ DiskFault.Failed → (D.state disk).failures < (D.state e.1).failures) }
     {
+        RecordFile::with_records_as(alloc, NEW_VERSION, disk, records)
+    }
+
+    /// As `with_records`, in a version.
+    pub(crate) fn with_records_as(
+        alloc: Global,
+        version: Version,
+        disk: D,
+        records: &[Record],
+    ) -> Result<RecordFile<D>, (DiskFault, D)>
+        requires empty { (D.state disk).seen ≡ [] }
+        requires durable { Only (D.state disk).seen (D.state disk).may_leave }
+        requires fit { AllByRecursion (Fits version) records.now }
+        ensures ok { IfOk result (λ file. (file.stopped ≡ false) × (file.version ≡ version) × (file.records ≡ records.now)
+            × Only (D.state file.disk).seen (D.state file.disk).may_leave) }
+        ensures steady { IsSteady (D.state disk) → MatchResult result
+            (λ file. IsSteady (D.state file.disk))
+            (λ e. (e.0 ≢ DiskFault.Failed) × IsSteady (D.state e.1)) }
+        // A crash at any moment of the call leaves no record, or all of them.
+        ensures any_moment { MatchResult result
+            (λ file. LeavesOnly (D.state disk) (D.state file.disk) (IsNoneOrAll version records.now))
+            (λ e. LeavesOnly (D.state disk) (D.state e.1) (IsNoneOrAll version records.now)) }
+        ensures memory { IfErr result (λ e. e.0 ≡ DiskFault.Memory → IsUntouched (D.state disk) (D.state e.1)) }
+        ensures failed { MatchResult result
+            (λ file. (D.state disk).failures ≤ (D.state file.disk).failures)
+            (λ e. e.0 ≡ DiskFault.Failed → (D.state disk).failures < (D.state e.1).failures) }
+    {
         let mut disk = disk;
-        match write_file(alloc, NEW_VERSION, records, &mut disk) {
+        match write_file(alloc, version, records, &mut disk) {
             Ok(end) => Ok(RecordFile {
                 disk,
-                version: NEW_VERSION,
+                version,
                 end,
                 stopped: false,
                 text: None,

@@ -30,9 +30,9 @@ impl History {
         ensures { self.new.events ≡ event_of _failed.now _bytes.now ∷ self.old.events }
     {}
 
-    /// Notes a call that did not fail, and what the disk held before it, in two parts.
-    pub(crate) fn note_parts(&mut self, _front: &[u8], _back: &[u8])
-        ensures { self.new.events ≡ (0, _front.now ++ _back.now) ∷ self.old.events }
+    /// Notes a call that did not fail, and what the disk held before it, in three parts.
+    pub(crate) fn note_parts(&mut self, _front: &[u8], _middle: &[u8], _back: &[u8])
+        ensures { self.new.events ≡ (0, _front.now ++ _middle.now ++ _back.now) ∷ self.old.events }
     {}
 }
 

@@ -1,18 +1,21 @@
-//! The bytes of a disk in memory, and what was written over of those that the last sync has made sure of. A write costs
-//! its bytes and those that are set aside, from its place on; a sync costs nothing.
-ghost use Rattle.std.specs.Prelude.{◌≡◌, ◌+◌, ◌≤◌, ◌<◌, ◌++◌, ◌^◌, [], length, OnOk, OnErr, IsOk, IfOk, vec_capacity};
+//! The bytes of a disk in memory, and what was written over of those that the last sync has made sure of. A write costs its bytes,
+//! those that it sets aside, which are the ones that it writes over, and those between them and what was set aside before; a sync costs
+//! nothing.
+ghost use Rattle.std.specs.Prelude.{◌≡◌, ◌+◌, ◌≤◌, ◌<◌, ◌++◌, ◌^◌, [], length, OnOk, OnErr, IsOk, IfOk};
 ghost use Rattle.disk.specs.Disk.{Holds};
 ghost use Rattle.disk.specs.Image.{KeepsRoom};
 
+use crate::buffer::overwrite;
+use crate::undo::Undo;
 use std::alloc::{AllocError, Global};
 use std::marker::Model;
 
 pub struct Image {
     bytes: Vec<u8>,
-    // so many leading bytes are as the last sync has made sure of them
+    // so many leading bytes the last sync has made sure of
     clean: usize,
-    // what it has made sure of after those: it was there before the writes that came after the sync
-    aside: Vec<u8>,
+    // of those, what the writes since then have written over
+    undo: Undo,
 }
 
 // Written out, so that a crate above that lets one go has no proof of what is in it.
@@ -21,7 +24,7 @@ impl Drop for Image {
         let Image {
             bytes: _,
             clean: _,
-            aside: _,
+            undo: _,
         } = self;
     }
 }
@@ -32,71 +35,10 @@ impl Model for Image {
 
     ghost Value = { ImageBytes };
 
-    ghost view = { λ i. record { seen = i.bytes.items; synced = synced_of i.clean i.bytes.items i.aside.items; seen_room = vec_capacity i.bytes; synced_room = vec_capacity i.aside } };
+    ghost view = { λ i. record { seen = i.bytes.items; synced = synced_of i.clean i.undo.at i.undo.bytes.items i.bytes.items; seen_room = vec_capacity i.bytes; synced_room = vec_capacity i.undo.bytes } };
 
     // the bytes never get fewer
-    ghost invariant = { λ i. i.clean + length i.aside.items ≤ length i.bytes.items };
-}
-
-// Puts bytes in the place of those from `at` on.
-fn put_over(bytes: &mut Vec<u8>, at: usize, new: &[u8])
-    requires { at + length new.now ≤ length bytes.old.items }
-    ensures items { Holds bytes.old.items at new.now bytes.new.items }
-    ensures capacity { vec_capacity bytes.new ≡ vec_capacity bytes.old }
-{
-    bytes[at..at + new.len()].copy_from_slice(new);
-}
-
-// Puts bytes in the place of those from `at` on, and past the end.
-fn overwrite(bytes: &mut Vec<u8>, at: usize, new: &[u8]) -> Result<(), AllocError>
-    requires { at ≤ length bytes.old.items }
-    ensures ok { OnOk result (Holds bytes.old.items at new.now bytes.new.items) }
-    ensures err { OnErr result (bytes.new.items ≡ bytes.old.items) }
-    ensures succeeds { at + length new.now ≤ vec_capacity bytes.old → IsOk result }
-    ensures capacity { vec_capacity bytes.old ≤ vec_capacity bytes.new }
-{
-    let inside = bytes.len() - at;
-    if new.len() <= inside {
-        put_over(bytes, at, new);
-    } else {
-        bytes.reserve(new.len() - inside)?;
-        bytes.truncate(at);
-        bytes.extend_from_slice(new)?;
-    }
-    Ok(())
-}
-
-// Puts bytes before those that are there.
-fn put_before(bytes: &mut Vec<u8>, front: &[u8]) -> Result<(), AllocError>
-    ensures ok { OnOk result (bytes.new.items ≡ front.now ++ bytes.old.items) }
-    ensures err { OnErr result (bytes.new.items ≡ bytes.old.items) }
-    ensures succeeds { length front.now + length bytes.old.items ≤ vec_capacity bytes.old → IsOk result }
-    ensures capacity { vec_capacity bytes.old ≤ vec_capacity bytes.new }
-{
-    let count = bytes.len();
-    bytes.extend_from_slice(front)?;
-    if count > 0 {
-        bytes.copy_within(0..count, front.len());
-        put_over(bytes, 0, front);
-    }
-    Ok(())
-}
-
-// Makes room for so many bytes. An empty buffer is replaced, since to grow it would copy room that was never written.
-fn make_room(bytes: &mut Vec<u8>, room: usize) -> Result<(), AllocError>
-    ensures same { bytes.new.items ≡ bytes.old.items }
-    ensures ok { OnOk result (room ≤ vec_capacity bytes.new) }
-    ensures succeeds { room ≤ vec_capacity bytes.old → IsOk result }
-    ensures capacity { vec_capacity bytes.old ≤ vec_capacity bytes.new }
-{
-    if room <= bytes.capacity() {
-        return Ok(());
-    }
-    if bytes.is_empty() {
-        *bytes = Vec::with_capacity(*bytes.allocator(), room)?;
-        return Ok(());
-    }
-    bytes.reserve(room - bytes.len())
+    ghost invariant = { λ i. (i.undo.at + length i.undo.bytes.items ≤ i.clean) × (i.clean ≤ length i.bytes.items) };
 }
 
 impl Image {
@@ -107,7 +49,7 @@ impl Image {
         Image {
             bytes: Vec::new(alloc),
             clean: 0,
-            aside: Vec::new(alloc),
+            undo: Undo::new(alloc),
         }
     }
 
@@ -118,7 +60,7 @@ impl Image {
         Image {
             bytes,
             clean: 0,
-            aside: Vec::new(alloc),
+            undo: Undo::new(alloc),
         }
     }
 
@@ -135,11 +77,17 @@ impl Image {
         &self.bytes
     }
 
-    /// What the last sync has made sure of, in two parts.
-    pub(crate) fn synced(&self) -> (&[u8], &[u8])
-        ensures { result.0.now ++ result.1.now ≡ self.now.synced }
+    /// What the last sync has made sure of, in three parts: what is there up to the bytes that were set aside, these, and what is there
+    /// after them.
+    pub(crate) fn synced(&self) -> (&[u8], &[u8], &[u8])
+        ensures { result.0.now ++ result.1.now ++ result.2.now ≡ self.now.synced }
     {
-        (&self.bytes[..self.clean], &self.aside)
+        let end = self.undo.at + self.undo.bytes.len();
+        (
+            &self.bytes[..self.undo.at],
+            &self.undo.bytes,
+            &self.bytes[end..self.clean],
+        )
     }
 
     pub(crate) fn read(&self, alloc: Global) -> Result<Vec<u8>, AllocError>
@@ -157,10 +105,10 @@ impl Image {
     {
         let end = end.max(self.bytes.len());
         self.bytes.reserve(end - self.bytes.len())?;
-        if end <= self.aside.capacity() {
+        if end <= self.undo.bytes.capacity() {
             return Ok(());
         }
-        make_room(&mut self.aside, self.bytes.capacity())
+        self.undo.reserve(self.bytes.capacity())
     }
 
     /// Puts bytes in the place of those from `at` on, and past the end.
@@ -172,10 +120,7 @@ impl Image {
         ensures keeps { KeepsRoom self.old self.new }
         ensures succeeds { at + length new.now ≤ self.old.seen_room → length self.old.seen ≤ self.old.synced_room → IsOk result }
     {
-        if at < self.clean {
-            put_before(&mut self.aside, &self.bytes[at..self.clean])?;
-            self.clean = at;
-        }
+        self.undo.cover(&self.bytes[..self.clean], at, new.len())?;
         overwrite(&mut self.bytes, at, new)
     }
 
@@ -185,7 +130,7 @@ impl Image {
         ensures synced { self.new.synced ≡ self.old.seen }
         ensures keeps { KeepsRoom self.old self.new }
     {
-        self.aside.clear();
+        self.undo.clear();
         self.clean = self.bytes.len();
     }
 
@@ -194,9 +139,8 @@ impl Image {
         ensures seen { self.new.seen ≡ self.old.synced }
         ensures synced { self.new.synced ≡ self.old.synced }
     {
-        let end = self.clean + self.aside.len();
-        self.bytes[self.clean..end].copy_from_slice(&self.aside);
-        self.bytes.truncate(end);
+        self.undo.put_back(&mut self.bytes);
+        self.bytes.truncate(self.clean);
         self.sync();
     }
 }

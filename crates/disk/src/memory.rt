@@ -173,8 +173,8 @@ impl Disk for MemDisk {
     fn sync(&mut self) -> Result<(), DiskFault> {
         match due(&mut self.stop) {
             None => {
-                let (front, back) = self.image.synced();
-                self.history.note_parts(front, back);
+                let (front, middle, back) = self.image.synced();
+                self.history.note_parts(front, middle, back);
                 self.image.sync();
                 Ok(())
             }

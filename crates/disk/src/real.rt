@@ -1,6 +1,7 @@
 //! A disk over a file of the operating system.
-ghost use Rattle.std.specs.Prelude.{◌≡◌, ◌≤◌, ◌<◌, ◌+◌, ◌^◌, IsTrue, IfOk, true, false, not, length};
-ghost use Rattle.disk.specs.RealFile.{file_state, IsNew};
+ghost use Rattle.std.specs.Prelude.{◌≡◌, ◌≤◌, ◌<◌, ◌+◌, ◌^◌, [], IsTrue, IfOk, true, false, not, length, max};
+ghost use Rattle.disk.specs.Disk.{Only};
+ghost use Rattle.disk.specs.RealFile.{file_state, IsNew, IsExact};
 
 use crate::device::{Disk, DiskFault};
 use crate::history::History;
@@ -28,31 +29,54 @@ static ZEROS: [u8; STEP] = [0; STEP];
 /// A file that grows makes a sync write its new size too. So the file grows ahead: a write that ends past the file's end
 /// first puts zeros there, up to the next multiple of 65,536 bytes. After the image's bytes the file has only such
 /// zeros, and a disk that is made of the file again has them in its image. A zero is a closed gate, so that a record file
-/// ends before them.
+/// ends before them. Under a disk from `create` the file grows by what is written alone, and has no such zeros.
 #[derive(Drop)]
 pub struct FileDisk<F = fs::File> {
     image: Image,
     file: F,
     // so many bytes the file has, unless it is broken
     size: usize,
+    // whether it grows ahead of what is written
+    ahead: bool,
     // a write or a sync of the file has failed
     broken: bool,
     history: History,
 }
 
-// Opens a file for reading and writing, and syncs its folder, so that a crash leaves a file that was made.
+// Syncs the folder of a file, so that a crash leaves a file that was made.
+fn sync_folder<R: Files<File = fs::File>>(rt: &R, path: &str) -> io::Result<()> {
+    let folder = match Path::new(path).parent() {
+        Some(folder) if !folder.as_str().is_empty() => folder,
+        _ => Path::new("."),
+    };
+    fs::open(rt, folder)?.sync_all()
+}
+
+// Opens a file for reading and writing, which is made where there is none.
 fn open_file<R: Files<File = fs::File>>(rt: &R, path: &str) -> io::Result<fs::File> {
     let mut options = fs::OpenOptions::new();
     options.read(true);
     options.write(true);
     options.create(true);
     let file = options.open(rt, path)?;
-    let folder = match Path::new(path).parent() {
-        Some(folder) if !folder.as_str().is_empty() => folder,
-        _ => Path::new("."),
-    };
-    fs::open(rt, folder)?.sync_all()?;
+    sync_folder(rt, path)?;
     Ok(file)
+}
+
+// Makes a file, for reading and writing, where there is none. It is removed again where its folder cannot be synced.
+fn new_file<R: Files<File = fs::File>>(rt: &R, path: &str) -> io::Result<fs::File> {
+    let mut options = fs::OpenOptions::new();
+    options.read(true);
+    options.write(true);
+    options.create_new(true);
+    let file = options.open(rt, path)?;
+    match sync_folder(rt, path) {
+        Ok(()) => Ok(file),
+        Err(error) => {
+            let _ = fs::remove_file(rt, path);
+            Err(error)
+        }
+    }
 }
 
 // Puts zeros into a file from one place up to another.
@@ -77,6 +101,28 @@ impl FileDisk {
             Ok(file) => FileDisk::new(rt.alloc(), file),
             Err(_) => Err(DiskFault::Failed),
         }
+    }
+
+    /// Makes an empty file at a path and a disk over it, whose file ends where the bytes that were written end. It makes sure of
+    /// the file's name too. An error is the system's, and leaves no new file: there is one already, or it could not be made.
+    pub fn create<R: Files<File = fs::File> + AllocGlobal>(
+        rt: &R,
+        path: &str,
+    ) -> io::Result<FileDisk>
+        ensures new { IfOk result (λ disk. IsNew disk) }
+        ensures empty { IfOk result (λ disk. (file_state disk).seen ≡ []) }
+        ensures durable { IfOk result (λ disk. Only (file_state disk).seen (file_state disk).may_leave) }
+        ensures exact { IfOk result (λ disk. IsExact disk) }
+    {
+        let file = new_file(rt, path)?;
+        Ok(FileDisk {
+            image: Image::new(rt.alloc()),
+            file,
+            size: 0,
+            ahead: false,
+            broken: false,
+            history: History::new(),
+        })
     }
 }
 
@@ -104,6 +150,7 @@ impl<F: FileExt + OpenFile> FileDisk<F> {
             image: Image::of(alloc, bytes),
             file,
             size,
+            ahead: true,
             broken: false,
             history: History::new(),
         })
@@ -116,14 +163,20 @@ impl<F: FileExt + OpenFile> FileDisk<F> {
         self.file
     }
 
-    // Grows the file so that it reaches `end`, and says whether it does.
+    // Grows the file so that it reaches `end`, or will with a write that ends there, and says whether it does.
     fn grow(&mut self, end: usize) -> bool
         ensures same { (self.new.image ≡ self.old.image) × (self.new.history ≡ self.old.history) }
         ensures broken { self.new.broken ≡ self.old.broken }
         ensures reaches { IsTrue result → end ≤ self.new.size }
         ensures no_shorter { self.old.size ≤ self.new.size }
+        ensures ahead { self.new.ahead ≡ self.old.ahead }
+        ensures exact { IsTrue result → self.old.ahead ≡ false → self.new.size ≡ max self.old.size end }
     {
         if end <= self.size {
+            return true;
+        }
+        if !self.ahead {
+            self.size = end;
             return true;
         }
         match end.checked_next_multiple_of(STEP) {
@@ -146,6 +199,8 @@ impl<F: FileExt + OpenFile> FileDisk<F> {
         ensures stays { self.old.broken ≡ true → result ≡ false }
         ensures reaches { IsTrue result → at + length bytes.now ≤ self.new.size }
         ensures no_shorter { self.old.size ≤ self.new.size }
+        ensures ahead { self.new.ahead ≡ self.old.ahead }
+        ensures exact { IsTrue result → self.old.ahead ≡ false → self.new.size ≡ max self.old.size (at + length bytes.now) }
     {
         if self.broken {
             return false;
@@ -163,6 +218,7 @@ impl<F: FileExt + OpenFile> FileDisk<F> {
         ensures answer { result ≡ not self.new.broken }
         ensures stays { self.old.broken ≡ true → result ≡ false }
         ensures size { self.new.size ≡ self.old.size }
+        ensures ahead { self.new.ahead ≡ self.old.ahead }
     {
         if self.broken {
             return false;
@@ -179,7 +235,7 @@ impl<F: FileExt + OpenFile> Disk for FileDisk<F> {
     ghost use Rattle.std.specs.Prelude.{None, false};
     ghost use Rattle.std.proofs.Common.{inl, inr, refl};
     ghost use Rattle.disk.specs.Disk.{Writes, Syncs};
-    ghost use Rattle.disk.specs.RealFile.{file_state, IsWhole, StaysBroken};
+    ghost use Rattle.disk.specs.RealFile.{file_state, IsWhole, IsExact, StaysBroken};
     ghost use Rattle.disk.specs.Laws.{file_counts_now, file_only_now};
 
     ghost state = { file_state };
@@ -209,6 +265,7 @@ impl<F: FileExt + OpenFile> Disk for FileDisk<F> {
         ensures writes { Writes (file_state self.old) (file_state self.new) at bytes.now result }
         ensures broken { StaysBroken self.old self.new result }
         ensures whole { IsWhole self.old → IsWhole self.new }
+        ensures exact { IsExact self.old → IsExact self.new }
     {
         // Read for its bound: so few bytes are there that the end of these fits.
         let _size = self.image.len();
@@ -225,13 +282,14 @@ impl<F: FileExt + OpenFile> Disk for FileDisk<F> {
         ensures syncs { Syncs (file_state self.old) (file_state self.new) result }
         ensures broken { StaysBroken self.old self.new result }
         ensures whole { IsWhole self.old → IsWhole self.new }
+        ensures exact { IsExact self.old → IsExact self.new }
     {
         if !self.flush() {
             self.history.note(&[1], self.image.bytes());
             return Err(DiskFault::Failed);
         }
-        let (front, back) = self.image.synced();
-        self.history.note_parts(front, back);
+        let (front, middle, back) = self.image.synced();
+        self.history.note_parts(front, middle, back);
         self.image.sync();
         Ok(())
     }

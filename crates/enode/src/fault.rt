@@ -1,10 +1,12 @@
 //! Why a node did not come back, or did not take a packet.
 ghost use Rattle.std.specs.Prelude.{◌≡◌, IsErrOf};
+ghost use Rattle.enode_rules.specs.KeptStep.{told};
 ghost use Rattle.enode.specs.Faults.{as_rule, of_file, refusal_of};
+ghost use Rattle.wire.specs.declared.packet.Step.{Step};
 
 use disk::{DiskFault, FileFault};
 use thiserror::Error;
-use wire::{Refusal, Step};
+use wire::Refusal;
 
 /// Why a node did not come back from its disk, or did not take a packet.
 #[derive(Clone, Copy, Debug, PartialEq, Eq, Error)]
@@ -46,12 +48,12 @@ impl From<NodeFault> for Refusal {
 }
 
 /// The answer of a rule of the node's table, which finds no damage.
-pub(crate) fn answer(done: Result<Step, DiskFault>) -> Result<Step, NodeFault>
-    ensures rule { as_rule result ≡ done }
+pub(crate) fn answer(done: Result<(), DiskFault>) -> Result<(), NodeFault>
+    ensures rule { (step : Step) → as_rule (told result step) ≡ told done step }
     ensures undamaged { IsErrOf result NodeFault.Damaged → ⊥ }
 {
     match done {
-        Ok(step) => Ok(step),
+        Ok(()) => Ok(()),
         Err(DiskFault::Failed) => Err(NodeFault::Failed),
         Err(DiskFault::Memory) => Err(NodeFault::Memory),
     }

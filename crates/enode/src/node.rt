@@ -1,5 +1,5 @@
 //! A node.
-ghost use Rattle.std.specs.Prelude.{◌≡◌, ◌≢◌, ◌<◌, List, [], Some, None, false, true, IfOk, IfErr, IsErrOf, MatchResult, option_map};
+ghost use Rattle.std.specs.Prelude.{◌≡◌, ◌≢◌, ◌<◌, List, [], Some, None, false, true, IfOk, IfErr, OnOk, IsErrOf, MatchResult, option_map};
 ghost use Rattle.block_types.specs.declared.record.Record.{Record};
 ghost use Rattle.block_types.specs.declared.record.Version.{Version};
 ghost use Rattle.disk.specs.Disk.{IsSteady, LeavesOnly};
@@ -8,6 +8,7 @@ ghost use Rattle.disk.specs.Memory.{memory_state};
 ghost use Rattle.replica.specs.State.{content_of};
 ghost use Rattle.replica.specs.Replay.{fit};
 ghost use Rattle.model_streams.specs.Node.{node_rule, extent_of, contents};
+ghost use Rattle.enode_rules.specs.KeptStep.{empty_step, told};
 ghost use Rattle.enode.specs.Faults.{as_rule};
 ghost use Rattle.enode.specs.Node.{find, IsReplay, IsRestart, HoldsReplicas};
 ghost use Rattle.enode.specs.Performs.{NodePerforms};
@@ -139,8 +140,38 @@ impl<D: Disk> Node<D> {
         // While the node runs, its replicas are what its records make of them.
         ensures replays { self.old.file.stopped ≡ false → IsReplay self.old.number self.old.replicas self.old.file.records }
     {
+        let mut step = Step::silent(alloc);
+        match self.handle_into(alloc, packet, &mut step) {
+            Ok(()) => Ok(step),
+            Err(fault) => Err(fault),
+        }
+    }
+
+    /// What the node does with a packet, as `handle`. What it sends and shows fills the step, which is empty before: one that is
+    /// kept, and emptied before it is given again, takes no memory once it has room. After an error it may hold something, which
+    /// is not sent.
+    pub fn handle_into(
+        &mut self,
+        alloc: Global,
+        packet: &Packet,
+        step: &mut Step,
+    ) -> Result<(), NodeFault>
+        requires empty { step.old ≡ empty_step }
+        ensures performed { self.old.file.stopped ≡ false → NodePerforms D.state self.old.replicas self.new.replicas self.old.file self.new.file
+            (extent_of packet.now.body) (node_rule self.old.number (find self.old.replicas (extent_of packet.now.body)) packet.now packet.now.body) (as_rule (told result step.new)) }
+        ensures undamaged { IsErrOf result NodeFault.Damaged → ⊥ }
+        ensures failed { IsErrOf result NodeFault.Failed → (D.state self.old.file.disk).failures < (D.state self.new.file.disk).failures }
+        ensures number { self.new.number ≡ self.old.number }
+        ensures stopped { self.old.file.stopped ≡ true → (self.new ≡ self.old) × (told result step.new ≡ Ok empty_step) }
+
+        // A step sends no more than a caller can make room for beforehand.
+        ensures few { OnOk result (AreFew step.new.packets step.new.notes) }
+
+        // While the node runs, its replicas are what its records make of them.
+        ensures replays { self.old.file.stopped ≡ false → IsReplay self.old.number self.old.replicas self.old.file.records }
+    {
         if self.file.is_stopped() {
-            return Ok(Step::silent(alloc));
+            return Ok(());
         }
         answer(take(
             &mut self.replicas,
@@ -148,6 +179,7 @@ impl<D: Disk> Node<D> {
             alloc,
             self.number,
             packet,
+            step,
         ))
     }
 

@@ -1,6 +1,7 @@
 //! The rules of a node's table, over its replicas and its file.
 ghost use Rattle.std.specs.Prelude.{◌≡◌, None, false};
 ghost use Rattle.model_streams.specs.Node.{extent_of, node_rule, seal_body_rule, seal_extent};
+ghost use Rattle.enode_rules.specs.KeptStep.{empty_step, told};
 ghost use Rattle.enode.specs.Node.{find};
 ghost use Rattle.enode.specs.Performs.{NodePerforms};
 
@@ -9,7 +10,7 @@ use crate::extents::extent_of;
 use crate::making::make;
 use disk::{Disk, DiskFault, RecordFile};
 use enode_replica::NodeReplica;
-use enode_rules::handle;
+use enode_rules::{fill, handle_into};
 use std::alloc::Global;
 use std::collections::BTreeMap;
 use wire::{Body, Packet, ReqNo, SealBody, Step};
@@ -67,21 +68,23 @@ fn take_absent<D: Disk>(
     }
 }
 
-/// What a node does with a packet.
+/// What a node does with a packet, which fills a step.
 pub(crate) fn take<D: Disk>(
     replicas: &mut BTreeMap<u64, NodeReplica>,
     file: &mut RecordFile<D>,
     alloc: Global,
     number: u8,
     packet: &Packet,
-) -> Result<Step, DiskFault>
+    step: &mut Step,
+) -> Result<(), DiskFault>
     requires running { file.old.stopped ≡ false }
+    requires empty { step.old ≡ empty_step }
     ensures { NodePerforms D.state replicas.old.entries replicas.new.entries file.old file.new (extent_of packet.now.body)
-        (node_rule number (find replicas.old.entries (extent_of packet.now.body)) packet.now packet.now.body) result }
+        (node_rule number (find replicas.old.entries (extent_of packet.now.body)) packet.now packet.now.body) (told result step.new) }
 {
     let extent = extent_of(&packet.body);
     match replicas.get_mut(&extent) {
-        None => take_absent(replicas, file, alloc, number, packet),
-        Some(hosted) => handle(hosted, file, alloc, number, packet),
+        None => fill(step, take_absent(replicas, file, alloc, number, packet)),
+        Some(hosted) => handle_into(hosted, file, alloc, number, packet, step),
     }
 }

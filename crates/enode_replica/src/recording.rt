@@ -20,7 +20,7 @@ use model_streams::WaitingAppend;
 use replica::Replica;
 use std::alloc::Global;
 use std::slice;
-use wire::{ActorId, Blocks, ExtentId, Fence, ReqNo};
+use wire::{ActorId, ExtentId, Fence, ReqNo};
 
 /// Adds a copy of a group to the end of an open replica below its target, once it is recorded there.
 fn add_group<D: Disk>(
@@ -40,9 +40,8 @@ fn add_group<D: Disk>(
     let generation = replica.fence();
     let end = replica.len();
     replica.reserve(slice::from_ref(group))?;
-    let kept = group.copy()?;
     write_append(alloc, file, extent, end, group)?;
-    match replica.put(alloc, generation, end, kept) {
+    match replica.put(generation, end, group) {
         Ok(()) => Ok(()),
         // Its generation and its offset are the replica's own, and there is room for it.
         Err(_refused) => unreachable!(),
@@ -50,33 +49,33 @@ fn add_group<D: Disk>(
 }
 
 impl NodeReplica {
-    /// Adds these blocks as a group to the end of an open replica below its target, where it waits for the secondaries,
-    /// once that is recorded. 20: the disk failed, and the file is stopped; 22: the file is as it was.
+    /// Adds a group to the end of an open replica below its target, where it waits for the secondaries, once that is
+    /// recorded. 20: the disk failed, and the file is stopped; 22: the file is as it was.
     pub fn append<D: Disk>(
         &mut self,
         alloc: Global,
         file: &mut RecordFile<D>,
         extent: ExtentId,
-        blocks: &Blocks,
+        group: Group,
         asker: ActorId,
         request: ReqNo,
     ) -> Result<(), DiskFault>
         requires running { file.old.stopped ≡ false }
-        requires group { IsGroup blocks.now }
         requires open { is_open self.old.content.phase ≡ true }
         requires room { text_length self.old.content.groups < self.old.content.target }
         ensures after { OnOk result (self.new ≡ record self.old {
-          content = appended self.old.content blocks.now;
-          waiting = self.old.waiting ++ record { offset = text_length self.old.content.groups; group = blocks.now; asker = asker; request = request } ∷ [];
+          content = appended self.old.content group;
+          waiting = self.old.waiting ++ record { offset = text_length self.old.content.groups; group = group; asker = asker; request = request } ∷ [];
         }) }
         ensures same { OnErr result (self.new ≡ self.old) }
-        ensures file { Appends D.state file.old file.new (records.Append extent (text_length self.old.content.groups) blocks.now) result }
+        ensures file { Appends D.state file.old file.new (records.Append extent (text_length self.old.content.groups) group) result }
     {
+        // Asked for, so that the proof knows that it is a group.
+        let _blocks = group.blocks();
         let offset = self.replica.len();
         let queue = &mut self.waiting;
         queue.appends.reserve(1)?;
         queue.ends.reserve(1)?;
-        let group = blocks.group(alloc)?;
         match add_group(&mut self.replica, alloc, file, extent, &group) {
             Ok(()) => {}
             Err(fault) => return Err(fault),
@@ -132,7 +131,7 @@ impl NodeReplica {
             generation: generation.0,
         };
         write(alloc, file, raised)?;
-        match self.replica.raise(alloc, generation.0) {
+        match self.replica.raise(generation.0) {
             Ok(()) => Ok(()),
             // It is above the fence.
             Err(_stale) => unreachable!(),

@@ -11,20 +11,14 @@ use std::alloc::Global;
 
 impl NodeReplica {
     /// The record of a group: it stands at the end of an open replica below its target.
-    fn recover_append(
-        &mut self,
-        alloc: Global,
-        extent: u64,
-        offset: u32,
-        group: Group,
-    ) -> Result<(), FileFault>
+    fn recover_append(&mut self, extent: u64, offset: u32, group: Group) -> Result<(), FileFault>
         ensures { Recovers self.old self.new (records.Append extent offset group) result }
     {
         if !is_open(self.replica.state()) {
             return Err(FileFault::Damaged);
         }
         let generation = self.replica.fence();
-        match self.replica.put(alloc, generation, offset, group) {
+        match self.replica.put(generation, offset, &group) {
             Ok(()) => Ok(()),
             Err(PutFault::Memory) => Err(FileFault::Memory),
             Err(_unfit) => Err(FileFault::Damaged),
@@ -32,12 +26,7 @@ impl NodeReplica {
     }
 
     /// The record of a higher fence: the replica is open, and its fence is below it.
-    fn recover_fence(
-        &mut self,
-        alloc: Global,
-        extent: u64,
-        generation: u64,
-    ) -> Result<(), FileFault>
+    fn recover_fence(&mut self, extent: u64, generation: u64) -> Result<(), FileFault>
         ensures { Recovers self.old self.new (records.Fence extent generation) result }
     {
         if !is_open(self.replica.state()) {
@@ -46,7 +35,7 @@ impl NodeReplica {
         if self.replica.fence() >= generation {
             return Err(FileFault::Damaged);
         }
-        match self.replica.raise(alloc, generation) {
+        match self.replica.raise(generation) {
             Ok(()) => Ok(()),
             Err(_stale) => Err(FileFault::Damaged),
         }
@@ -109,8 +98,8 @@ impl NodeReplica {
                 extent,
                 offset,
                 group,
-            } => self.recover_append(alloc, extent, offset, group),
-            Record::Fence { extent, generation } => self.recover_fence(alloc, extent, generation),
+            } => self.recover_append(extent, offset, group),
+            Record::Fence { extent, generation } => self.recover_fence(extent, generation),
             Record::Freeze { extent } => self.recover_freeze(alloc, extent),
             Record::Seal { extent, length } => self.recover_seal(alloc, extent, length),
             Record::Fill {

@@ -130,6 +130,8 @@ fn drop_front<T: Drop>(queue: &mut VecDeque<T>, count: usize)
     requires { count ≤ deque_len queue.old }
     ensures { queue.new.items ≡ drop count queue.old.items }
 {
-    // What is taken out goes, and is not looked at.
-    let _first = queue.drain(..count);
+    for _ in 0..count {
+        // What is taken out goes, and is not looked at.
+        let _first = queue.pop_front();
+    }
 }

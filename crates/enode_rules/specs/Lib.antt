@@ -1,2 +1,3 @@
+pub mod KeptStep
 pub mod Performs
 pub mod Sealing

@@ -4,10 +4,11 @@ ghost use Rattle.std.specs.Option.{IfNone};
 ghost use Rattle.block_types.specs.Limits.{IsGroup};
 ghost use Rattle.replica.specs.Groups.{text_length};
 ghost use Rattle.model_streams.specs.Node.{append_refusal, append_rule, append_taken, is_open as is_open_phase};
+ghost use Rattle.enode_rules.specs.KeptStep.{empty_step, told};
 ghost use Rattle.enode_rules.specs.Performs.{ReplicaPerforms};
 
 use crate::actors::generation_of;
-use crate::sending::{puts_of, refuse};
+use crate::sending::{add_puts, fill, refuse};
 use block_types::MAX_BLOCKS;
 use disk::{Disk, DiskFault, RecordFile};
 use enode_replica::{NodeReplica, is_open};
@@ -36,7 +37,7 @@ fn append_refusal(
     if generation_of(packet.from, fence) < hosted.replica().fence() {
         return Some(Refusal::Stale);
     }
-    let count = blocks.items.len();
+    let count = blocks.as_slice().len();
     if count == 0 || count > usize::from(MAX_BLOCKS) {
         return Some(Refusal::TooManyBlocks);
     }
@@ -63,13 +64,17 @@ pub(crate) fn append<D: Disk>(
     generation: Fence,
     blocks: &Blocks,
     request: ReqNo,
-) -> Result<Step, DiskFault>
+    step: &mut Step,
+) -> Result<(), DiskFault>
     requires running { file.old.stopped ≡ false }
-    ensures { ReplicaPerforms D.state hosted.old hosted.new file.old file.new (append_rule node hosted.old packet.now extent generation blocks.now request) result }
+    requires empty { step.old ≡ empty_step }
+    ensures { ReplicaPerforms D.state hosted.old hosted.new file.old file.new (append_rule node hosted.old packet.now extent generation blocks.now request) (told result step.new) }
 {
     match append_refusal(hosted, node, packet, generation, blocks) {
-        Some(refusal) => refuse(alloc, node, packet.from, request, refusal),
-        None => append_taken(hosted, file, alloc, node, packet, extent, blocks, request),
+        Some(refusal) => fill(step, refuse(alloc, node, packet.from, request, refusal)),
+        None => append_taken(
+            hosted, file, alloc, node, packet, extent, blocks, request, step,
+        ),
     }
 }
 
@@ -83,17 +88,21 @@ fn append_taken<D: Disk>(
     extent: ExtentId,
     blocks: &Blocks,
     request: ReqNo,
-) -> Result<Step, DiskFault>
+    step: &mut Step,
+) -> Result<(), DiskFault>
     requires running { file.old.stopped ≡ false }
+    requires empty { step.old ≡ empty_step }
     requires group { IsGroup blocks.now }
     requires open { is_open_phase hosted.old.content.phase ≡ true }
     requires room { text_length hosted.old.content.groups < hosted.old.content.target }
-    ensures { ReplicaPerforms D.state hosted.old hosted.new file.old file.new (append_taken node hosted.old packet.now extent blocks.now request) result }
+    ensures { ReplicaPerforms D.state hosted.old hosted.new file.old file.new (append_taken node hosted.old packet.now extent blocks.now request) (told result step.new) }
 {
+    // One list for the packets, the record and what waits.
+    let group = blocks.group()?;
     let replica = hosted.replica();
-    let step = puts_of(alloc, node, replica.places(), extent, replica.len(), blocks)?;
-    match hosted.append(alloc, file, extent, blocks, packet.from, request) {
-        Ok(()) => Ok(step),
+    add_puts(node, replica.places(), extent, replica.len(), &group, step)?;
+    match hosted.append(alloc, file, extent, group, packet.from, request) {
+        Ok(()) => Ok(()),
         Err(fault) => Err(fault),
     }
 }

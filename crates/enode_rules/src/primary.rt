@@ -1,7 +1,8 @@
 //! A replica at its primary: what the secondaries have, and the appends that are answered then.
-ghost use Rattle.std.specs.Prelude.{◌≡◌, ◌≤◌, take, IfOk, IfErr, length};
+ghost use Rattle.std.specs.Prelude.{◌≡◌, ◌≤◌, take, OnOk, IfErr, length};
 ghost use Rattle.disk.specs.declared.device.DiskFault.TheVariants as faults;
 ghost use Rattle.model_streams.specs.Node.{acked, answered, answers, greater, lesser, have_rule};
+ghost use Rattle.enode_rules.specs.KeptStep.{empty_step, told};
 ghost use Rattle.enode_rules.specs.Performs.{ReplicaPerformsInMemory};
 
 use crate::actors::is_node;
@@ -12,23 +13,24 @@ use std::alloc::Global;
 use wire::{ExtentId, Packet, Step};
 
 /// The answers to the first waiting appends, and that they are acknowledged.
-fn answers_of(
+fn add_answers(
     alloc: Global,
     node: u8,
     extent: ExtentId,
     waiting: &Waiting,
     count: usize,
-) -> Result<Step, DiskFault>
-    requires { count ≤ length waiting.now }
-    ensures packets { IfOk result (λ step. step.packets ≡ answers node extent (take count waiting.now)) }
-    ensures notes { IfOk result (λ step. step.notes ≡ acked extent (take count waiting.now)) }
+    step: &mut Step,
+) -> Result<(), DiskFault>
+    requires count { count ≤ length waiting.now }
+    requires empty { step.old ≡ empty_step }
+    ensures packets { OnOk result (step.new.packets ≡ answers node extent (take count waiting.now)) }
+    ensures notes { OnOk result (step.new.notes ≡ acked extent (take count waiting.now)) }
     ensures fault { IfErr result (λ e. e ≡ faults.Memory) }
 {
-    let mut step = Step::silent(alloc);
     for index in 0..count {
-        answer(alloc, &mut step, node, extent, waiting.get(index))?;
+        answer(alloc, step, node, extent, waiting.get(index))?;
     }
-    Ok(step)
+    Ok(())
 }
 
 /// The longer of two lengths.
@@ -53,15 +55,17 @@ pub(crate) fn have(
     packet: &Packet,
     extent: ExtentId,
     length: u32,
-) -> Result<Step, DiskFault>
-    ensures { ReplicaPerformsInMemory hosted.old hosted.new (have_rule node hosted.old packet.now extent length) result }
+    step: &mut Step,
+) -> Result<(), DiskFault>
+    requires { step.old ≡ empty_step }
+    ensures { ReplicaPerformsInMemory hosted.old hosted.new (have_rule node hosted.old packet.now extent length) (told result step.new) }
 {
     let places = hosted.replica().places();
     if node != places.primary {
-        return Ok(Step::silent(alloc));
+        return Ok(());
     }
     if !is_open(hosted.replica().state()) {
-        return Ok(Step::silent(alloc));
+        return Ok(());
     }
     if is_node(places.second, packet.from) {
         return told(
@@ -71,6 +75,7 @@ pub(crate) fn have(
             extent,
             greater(hosted.second_has, length),
             hosted.third_has,
+            step,
         );
     }
     if is_node(places.third, packet.from) {
@@ -81,9 +86,10 @@ pub(crate) fn have(
             extent,
             hosted.second_has,
             greater(hosted.third_has, length),
+            step,
         );
     }
-    Ok(Step::silent(alloc))
+    Ok(())
 }
 
 /// Answers what both secondaries have, where they have so much.
@@ -94,14 +100,16 @@ fn told(
     extent: ExtentId,
     second_has: u32,
     third_has: u32,
-) -> Result<Step, DiskFault>
-    ensures { ReplicaPerformsInMemory hosted.old hosted.new (answered node (record hosted.old { second_has = second_has; third_has = third_has }) extent) result }
+    step: &mut Step,
+) -> Result<(), DiskFault>
+    requires { step.old ≡ empty_step }
+    ensures { ReplicaPerformsInMemory hosted.old hosted.new (answered node (record hosted.old { second_has = second_has; third_has = third_has }) extent) (told result step.new) }
 {
     // Counted from 0, so that no more than those that are answered and one is looked at.
     let mut looks = 0;
     let waiting = hosted.waiting();
     let count = waiting.covered(lesser(second_has, third_has), &mut looks);
-    let step = answers_of(alloc, node, extent, waiting, count)?;
+    add_answers(alloc, node, extent, waiting, count, step)?;
     hosted.answer(second_has, third_has, count);
-    Ok(step)
+    Ok(())
 }

@@ -1,6 +1,7 @@
 //! The rules of a node's table for a replica that it has.
 ghost use Rattle.std.specs.Prelude.{◌≡◌, Some, false};
 ghost use Rattle.model_streams.specs.Node.{append_body_rule, check_body_rule, node_rule, read_body_rule, seal_body_rule};
+ghost use Rattle.enode_rules.specs.KeptStep.{empty_step, told};
 ghost use Rattle.enode_rules.specs.Performs.{ReplicaPerforms, ReplicaPerformsInMemory};
 
 use crate::appending::append;
@@ -9,6 +10,7 @@ use crate::primary::have;
 use crate::reading::{read, read_groups};
 use crate::sealing::{freeze, seal, send_tail, tail};
 use crate::secondary::put;
+use crate::sending::fill;
 use disk::{Disk, DiskFault, RecordFile};
 use enode_replica::NodeReplica;
 use std::alloc::Global;
@@ -21,9 +23,11 @@ fn take_append<D: Disk>(
     node: u8,
     packet: &Packet,
     body: &AppendBody,
-) -> Result<Step, DiskFault>
+    step: &mut Step,
+) -> Result<(), DiskFault>
     requires running { file.old.stopped ≡ false }
-    ensures { ReplicaPerforms D.state hosted.old hosted.new file.old file.new (append_body_rule node (Some hosted.old) packet.now body.now) result }
+    requires empty { step.old ≡ empty_step }
+    ensures { ReplicaPerforms D.state hosted.old hosted.new file.old file.new (append_body_rule node (Some hosted.old) packet.now body.now) (told result step.new) }
 {
     match body {
         AppendBody::Append {
@@ -41,16 +45,19 @@ fn take_append<D: Disk>(
             *generation,
             blocks,
             *request,
+            step,
         ),
         AppendBody::Put {
             extent,
             offset,
             group,
-        } => put(hosted, file, alloc, node, packet, *extent, *offset, group),
+        } => put(
+            hosted, file, alloc, node, packet, *extent, *offset, group, step,
+        ),
         AppendBody::Have { extent, length } => {
-            have(hosted, alloc, node, packet, *extent, *length)
+            have(hosted, alloc, node, packet, *extent, *length, step)
         }
-        _ => Ok(Step::silent(alloc)),
+        _ => Ok(()),
     }
 }
 
@@ -144,24 +151,27 @@ fn take_read(
     }
 }
 
-/// What node `node` does with a packet about an extent of which this is its replica: the rule of its table, exactly. The
-/// record, if there is one, is on the disk before the packets are handed out. 20: the disk failed, and the file is
-/// stopped; 22: nothing has changed.
-pub fn handle<D: Disk>(
+/// What node `node` does with a packet about an extent of which this is its replica: the rule of its table, exactly. What it
+/// sends and shows fills the step, which is empty before. The record, if there is one, is on the disk before the call returns. 20:
+/// the disk failed, and the file is stopped; 22: nothing has changed. After either the step may hold something, which is not
+/// sent.
+pub fn handle_into<D: Disk>(
     hosted: &mut NodeReplica,
     file: &mut RecordFile<D>,
     alloc: Global,
     node: u8,
     packet: &Packet,
-) -> Result<Step, DiskFault>
+    step: &mut Step,
+) -> Result<(), DiskFault>
     requires running { file.old.stopped ≡ false }
-    ensures { ReplicaPerforms D.state hosted.old hosted.new file.old file.new (node_rule node (Some hosted.old) packet.now packet.now.body) result }
+    requires empty { step.old ≡ empty_step }
+    ensures { ReplicaPerforms D.state hosted.old hosted.new file.old file.new (node_rule node (Some hosted.old) packet.now packet.now.body) (told result step.new) }
 {
     match &packet.body {
-        Body::Append(body) => take_append(hosted, file, alloc, node, packet, body),
-        Body::Check(body) => take_check(hosted, file, alloc, node, packet, body),
-        Body::Seal(body) => take_seal(hosted, file, alloc, node, packet, body),
-        Body::Read(body) => take_read(hosted, alloc, node, packet, body),
-        _ => Ok(Step::silent(alloc)),
+        Body::Append(body) => take_append(hosted, file, alloc, node, packet, body, step),
+        Body::Check(body) => fill(step, take_check(hosted, file, alloc, node, packet, body)),
+        Body::Seal(body) => fill(step, take_seal(hosted, file, alloc, node, packet, body)),
+        Body::Read(body) => fill(step, take_read(hosted, alloc, node, packet, body)),
+        _ => Ok(()),
     }
 }

@@ -2,10 +2,11 @@
 ghost use Rattle.std.specs.Prelude.{◌≡◌, ◌<◌, false, true};
 ghost use Rattle.replica.specs.Groups.{text_length};
 ghost use Rattle.model_streams.specs.Node.{is_open as is_open_phase, put_added, put_rule};
+ghost use Rattle.enode_rules.specs.KeptStep.{empty_step, told};
 ghost use Rattle.enode_rules.specs.Performs.{ReplicaPerforms};
 
 use crate::actors::is_node;
-use crate::sending::{refuse, tell_length};
+use crate::sending::{fill, refuse, tell_length};
 use block_types::Group;
 use disk::{Disk, DiskFault, RecordFile};
 use enode_replica::{NodeReplica, is_open};
@@ -23,25 +24,30 @@ pub(crate) fn put<D: Disk>(
     extent: ExtentId,
     offset: u32,
     group: &Group,
-) -> Result<Step, DiskFault>
+    step: &mut Step,
+) -> Result<(), DiskFault>
     requires running { file.old.stopped ≡ false }
-    ensures { ReplicaPerforms D.state hosted.old hosted.new file.old file.new (put_rule node hosted.old packet.now extent offset group.now) result }
+    requires empty { step.old ≡ empty_step }
+    ensures { ReplicaPerforms D.state hosted.old hosted.new file.old file.new (put_rule node hosted.old packet.now extent offset group.now) (told result step.new) }
 {
     let primary = hosted.replica().places().primary;
     if !is_node(primary, packet.from) {
-        return Ok(Step::silent(alloc));
+        return Ok(());
     }
     if !is_open(hosted.replica().state()) {
-        return refuse(alloc, node, packet.from, ReqNo::NoRequest, Refusal::NotOpen);
+        return fill(
+            step,
+            refuse(alloc, node, packet.from, ReqNo::NoRequest, Refusal::NotOpen),
+        );
     }
     let length = hosted.replica().len();
     if offset != length {
-        return tell_length(alloc, node, primary, extent, length);
+        return tell_length(node, primary, extent, length, step);
     }
     if length >= hosted.replica().target() {
-        return tell_length(alloc, node, primary, extent, length);
+        return tell_length(node, primary, extent, length, step);
     }
-    put_added(hosted, file, alloc, node, extent, group)
+    put_added(hosted, file, alloc, node, extent, group, step)
 }
 
 // The packet is made before the record, since that may want memory.
@@ -52,20 +58,22 @@ fn put_added<D: Disk>(
     node: u8,
     extent: ExtentId,
     group: &Group,
-) -> Result<Step, DiskFault>
+    step: &mut Step,
+) -> Result<(), DiskFault>
     requires running { file.old.stopped ≡ false }
+    requires empty { step.old ≡ empty_step }
     requires open { is_open_phase hosted.old.content.phase ≡ true }
     requires room { text_length hosted.old.content.groups < hosted.old.content.target }
-    ensures { ReplicaPerforms D.state hosted.old hosted.new file.old file.new (put_added node hosted.old extent (text_length hosted.old.content.groups) group.now) result }
+    ensures { ReplicaPerforms D.state hosted.old hosted.new file.old file.new (put_added node hosted.old extent (text_length hosted.old.content.groups) group.now) (told result step.new) }
 {
     let replica = hosted.replica();
     let offset = replica.len();
     // Asked for, so that the proof knows how long it is at most.
     let _blocks = group.blocks();
     let end = offset + group.size();
-    let step = tell_length(alloc, node, replica.places().primary, extent, end)?;
+    tell_length(node, replica.places().primary, extent, end, step)?;
     match hosted.put(alloc, file, extent, group) {
-        Ok(()) => Ok(step),
+        Ok(()) => Ok(()),
         Err(fault) => Err(fault),
     }
 }

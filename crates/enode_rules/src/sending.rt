@@ -7,14 +7,26 @@ ghost use Rattle.wire.specs.declared.body.AppendBody.TheVariants.{Have, Refused,
 ghost use Rattle.wire.specs.declared.body.Body.TheVariants as bodies;
 ghost use Rattle.model_streams.specs.Outcome.{packet as sent};
 ghost use Rattle.model_streams.specs.Node.{acked, answers, puts, to_manager};
+ghost use Rattle.enode_rules.specs.KeptStep.{empty_step, told};
 
-use block_types::Nodes;
+use block_types::{Group, Nodes};
 use disk::DiskFault;
 use model_streams::WaitingAppend;
 use std::alloc::Global;
-use wire::{
-    ActorId, AppendBody, Blocks, Body, ExtentId, Note, Packet, Refusal, ReqNo, SealBody, Step,
-};
+use wire::{ActorId, AppendBody, Body, ExtentId, Note, Packet, Refusal, ReqNo, SealBody, Step};
+
+/// Fills a step that is kept with one that was made. Without one it stays as it was.
+pub fn fill(step: &mut Step, made: Result<Step, DiskFault>) -> Result<(), DiskFault>
+    ensures { told result step.new ≡ made }
+{
+    match made {
+        Ok(made) => {
+            *step = made;
+            Ok(())
+        }
+        Err(fault) => Err(fault),
+    }
+}
 
 /// One packet of a node and no observation.
 pub(crate) fn one(alloc: Global, from: u8, to: ActorId, body: Body) -> Result<Step, DiskFault>
@@ -48,20 +60,25 @@ pub(crate) fn one_and_a_note(
     Ok(step)
 }
 
-/// How long a secondary is.
+/// Tells how long a secondary is.
 pub(crate) fn tell_length(
-    alloc: Global,
     from: u8,
     primary: u8,
     extent: ExtentId,
     length: u32,
-) -> Result<Step, DiskFault>
-    ensures packets { IfOk result (λ step. step.packets ≡ sent (Node from) (Node primary) (bodies.Append (Have extent length)) ∷ []) }
-    ensures notes { IfOk result (λ step. step.notes ≡ []) }
+    step: &mut Step,
+) -> Result<(), DiskFault>
+    requires empty { step.old ≡ empty_step }
+    ensures packets { OnOk result (step.new.packets ≡ sent (Node from) (Node primary) (bodies.Append (Have extent length)) ∷ []) }
+    ensures notes { OnOk result (step.new.notes ≡ []) }
     ensures fault { IfErr result (λ e. e ≡ faults.Memory) }
 {
-    let body = Body::Append(AppendBody::Have { extent, length });
-    one(alloc, from, ActorId::Node(primary), body)
+    step.packets.push(Packet {
+        from: ActorId::Node(from),
+        to: ActorId::Node(primary),
+        body: Body::Append(AppendBody::Have { extent, length }),
+    })?;
+    Ok(())
 }
 
 /// Adds the answer to an append, and that it is acknowledged.
@@ -119,13 +136,12 @@ pub fn refuse(
     one(alloc, from, to, body)
 }
 
-/// A Put of a group that shares its bytes.
-fn put_of(alloc: Global, extent: ExtentId, offset: u32, blocks: &Blocks) -> Result<Body, DiskFault>
-    requires { IsGroup blocks.now }
-    ensures body { IfOk result (λ body. body ≡ bodies.Append (Put extent offset blocks.now)) }
+/// A Put of a group, whose list it shares.
+fn put_of(extent: ExtentId, offset: u32, group: &Group) -> Result<Body, DiskFault>
+    ensures body { IfOk result (λ body. body ≡ bodies.Append (Put extent offset group.now)) }
     ensures fault { IfErr result (λ e. e ≡ faults.Memory) }
 {
-    let group = blocks.group(alloc)?;
+    let group = group.copy()?;
     Ok(Body::Append(AppendBody::Put {
         extent,
         offset,
@@ -135,20 +151,18 @@ fn put_of(alloc: Global, extent: ExtentId, offset: u32, blocks: &Blocks) -> Resu
 
 /// Adds a Put to a secondary.
 fn add_put(
-    alloc: Global,
     step: &mut Step,
     node: u8,
     to: u8,
     extent: ExtentId,
     offset: u32,
-    blocks: &Blocks,
+    group: &Group,
 ) -> Result<(), DiskFault>
-    requires { IsGroup blocks.now }
-    ensures packets { OnOk result (step.new.packets ≡ step.old.packets ++ sent (Node node) (Node to) (bodies.Append (Put extent offset blocks.now)) ∷ []) }
+    ensures packets { OnOk result (step.new.packets ≡ step.old.packets ++ sent (Node node) (Node to) (bodies.Append (Put extent offset group.now)) ∷ []) }
     ensures notes { OnOk result (step.new.notes ≡ step.old.notes) }
     ensures fault { IfErr result (λ e. e ≡ faults.Memory) }
 {
-    let body = put_of(alloc, extent, offset, blocks)?;
+    let body = put_of(extent, offset, group)?;
     step.packets.push(Packet {
         from: ActorId::Node(node),
         to: ActorId::Node(to),
@@ -158,29 +172,20 @@ fn add_put(
 }
 
 /// A Put to each secondary.
-pub(crate) fn puts_of(
-    alloc: Global,
+pub(crate) fn add_puts(
     node: u8,
     places: Nodes,
     extent: ExtentId,
     offset: u32,
-    blocks: &Blocks,
-) -> Result<Step, DiskFault>
-    requires { IsGroup blocks.now }
-    ensures packets { IfOk result (λ step. step.packets ≡ puts node places extent offset blocks.now) }
-    ensures notes { IfOk result (λ step. step.notes ≡ []) }
+    group: &Group,
+    step: &mut Step,
+) -> Result<(), DiskFault>
+    requires { step.old ≡ empty_step }
+    ensures packets { OnOk result (step.new.packets ≡ puts node places extent offset group.now) }
+    ensures notes { OnOk result (step.new.notes ≡ []) }
     ensures fault { IfErr result (λ e. e ≡ faults.Memory) }
 {
-    let mut step = Step::silent(alloc);
-    add_put(
-        alloc,
-        &mut step,
-        node,
-        places.second,
-        extent,
-        offset,
-        blocks,
-    )?;
-    add_put(alloc, &mut step, node, places.third, extent, offset, blocks)?;
-    Ok(step)
+    add_put(step, node, places.second, extent, offset, group)?;
+    add_put(step, node, places.third, extent, offset, group)?;
+    Ok(())
 }

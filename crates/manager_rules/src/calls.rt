@@ -18,7 +18,9 @@ use block_types::Nodes;
 use manager_state::ManagerTable;
 use model_streams::ManagerRecord;
 use std::alloc::{AllocError, Global};
-use wire::{ExtentId, Fence, Packet, RangeId, Refusal, ReqNo, StreamBody, StreamName};
+use wire::{
+    ExtentId, Fence, OpenedStreams, Packet, RangeId, Refusal, ReqNo, StreamBody, StreamName,
+};
 
 /// What it does with a call for streams.
 pub(crate) fn stream_body(
@@ -179,8 +181,8 @@ fn open_in(
             // Read for their ranges: within those a record's bytes are read as they were written.
             let _range = range.0;
             let _generation = generation.0;
-            let lists = table.tell_streams(alloc, range)?;
-            let packets = one(alloc, packet.from, opened(request, lists))?;
+            let streams = OpenedStreams::of(alloc, table.tell_streams(alloc, range)?)?;
+            let packets = one(alloc, packet.from, opened(request, streams))?;
             Ok(with_change(alloc, packets, Change::Write(new_record)))
         }
     }

@@ -12,8 +12,8 @@ use block_types::Nodes;
 use model_streams::{Asker, Extent};
 use std::alloc::{AllocError, Global};
 use wire::{
-    ActorId, AppendBody, Body, ExtentId, Fence, Notes, Packet, Packets, Refusal, ReqNo, SealBody,
-    Step, StreamBody, StreamLists,
+    ActorId, AppendBody, Body, ExtentId, Fence, Notes, OpenedStreams, Packet, Packets, Refusal,
+    ReqNo, SealBody, Step, StreamBody,
 };
 
 /// A packet of the manager.
@@ -33,7 +33,7 @@ pub(crate) fn created(request: ReqNo) -> Body
     Body::Stream(StreamBody::Created { request })
 }
 
-pub(crate) fn opened(request: ReqNo, streams: StreamLists) -> Body
+pub(crate) fn opened(request: ReqNo, streams: OpenedStreams) -> Body
     ensures { result ≡ opened_of request streams }
 {
     Body::Stream(StreamBody::Opened { request, streams })

@@ -6,7 +6,7 @@ ghost use Rattle.metadata.specs.Record.{text, high, keys, place, position, flag,
 ghost use Rattle.std.specs.List.{AllByRecursion};
 
 use crate::record::{IndexRange, KeyRange, MetaItem, MetaRecord, Region};
-use block_types::{Block, Group, Memory};
+use block_types::{Group, Memory};
 use blocks::writer::{put_bytes, put_u8, put_u16, put_u32, put_u64};
 use bytes::Bytes;
 use memtable::Place;
@@ -169,6 +169,6 @@ pub fn encode(alloc: Global, written: &MetaRecord) -> Result<Group, Memory>
     put_u64(&mut bytes, written.number)?;
     put_item(&mut bytes, &written.item)?;
     let mut blocks = Vec::new(alloc);
-    blocks.push(Block::of(Bytes::from_vec(bytes)?))?;
+    blocks.push(Bytes::from_vec(bytes)?)?;
     Ok(Group::of(blocks)?)
 }

@@ -6,31 +6,19 @@ ghost use Rattle.model_partition.specs.CheckpointStates.{CheckpointState, is_rec
 ghost use Rattle.model_partition.specs.Checkpoints.{index_if_fit, next_append, with_phase};
 ghost use Rattle.range_checkpoint.specs.Steps as specs;
 
-use block_types::{Block, Group};
-use bytes::Bytes;
+use block_types::Group;
 use checkpoint::Index;
 use client::{Appending, StreamClient};
 use model_partition::{CheckpointPhase, ServerContext, next_request};
 use std::alloc::{AllocError, Global};
 use wire::{Blocks, Packet};
 
-/// The bytes of blocks, which are shared.
-fn bytes_of(alloc: Global, blocks: &[Block]) -> Result<Vec<Bytes>, AllocError>
-    ensures { IfOk result (λ bytes. bytes.items ≡ blocks.now) }
-{
-    let mut bytes = Vec::with_capacity(alloc, blocks.len())?;
-    for block in blocks {
-        bytes.push(block.share()?)?;
-    }
-    Ok(bytes)
-}
-
-/// A group, ready to be appended. An error is out of memory (22).
-pub fn appending_of(alloc: Global, group: &Group) -> Result<Appending, AllocError>
+/// A group, ready to be appended, whose list it shares. An error is out of memory (22).
+pub fn appending_of(group: &Group) -> Result<Appending, AllocError>
     ensures { IfOk result (λ blocks. blocks ≡ group.now) }
 {
-    let items = bytes_of(alloc, group.blocks())?;
-    Appending::of(alloc, &Blocks { items })
+    let blocks = Blocks::of_group(group)?;
+    Appending::of(&blocks)
 }
 
 /// An index, ready to be appended, if it fits a group.
@@ -42,7 +30,7 @@ fn index_append(alloc: Global, index: &Index) -> Result<Option<Appending>, Alloc
         return Ok(None);
     }
     let group = index.encode(alloc)?;
-    Ok(Some(appending_of(alloc, &group)?))
+    Ok(Some(appending_of(&group)?))
 }
 
 /// What a checkpoint appends next, and what it waits for then.
@@ -65,7 +53,7 @@ pub(crate) fn append_of(
     match group {
         Some(group) => Ok(NextAppend {
             phase: CheckpointPhase::Pages,
-            blocks: Some(appending_of(alloc, &group)?),
+            blocks: Some(appending_of(&group)?),
         }),
         None => Ok(NextAppend {
             phase: CheckpointPhase::Index,

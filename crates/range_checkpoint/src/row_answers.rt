@@ -96,7 +96,7 @@ fn record_append(
         },
     };
     match encode(alloc, &record) {
-        Ok(group) => appending_of(alloc, &group),
+        Ok(group) => appending_of(&group),
         Err(_full) => Err(AllocError),
     }
 }

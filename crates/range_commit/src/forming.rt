@@ -97,16 +97,6 @@ fn notes_of(
     Ok(notes)
 }
 
-fn blocks_of(alloc: Global, group: &Group) -> Result<Blocks, AllocError>
-    ensures { IfOk result (λ blocks. blocks ≡ group.now) }
-{
-    let mut blocks = Vec::with_capacity(alloc, group.blocks().len())?;
-    for block in group.blocks() {
-        blocks.push(block.share()?)?;
-    }
-    Ok(Blocks { items: blocks })
-}
-
 fn plan_of(
     alloc: Global,
     range: RangeId,
@@ -122,7 +112,7 @@ fn plan_of(
     ensures blocks { IfOk result (λ plan. plan.blocks ≡ spelling (record_of next transactions.now)) }
     ensures notes { IfOk result (λ plan. plan.notes.items ≡ began range generation next transactions.now) }
 {
-    let blocks = blocks_of(alloc, group)?;
+    let blocks = Blocks::of_group(group)?;
     let notes = notes_of(alloc, range, generation, next, transactions)?;
     Ok(Plan {
         count: transactions.len(),

@@ -52,7 +52,7 @@ pub(crate) fn next_group(
                 blocks,
                 notes,
             } = plan;
-            let blocks = Appending::of(alloc, &blocks)?;
+            let blocks = Appending::of(&blocks)?;
             Ok(Some(Ready {
                 count,
                 size,
@@ -125,10 +125,10 @@ impl RangeState {
         ensures err { OnErr result (self.new ≡ self.old) }
         ensures short { IfOk result IsShort }
     {
-        let mut packets = Vec::with_capacity(alloc, 1)?;
         if self.queue.is_out() {
-            return Ok(RangeStep::sends(alloc, context.count + 1, packets));
+            return Ok(RangeStep::sends(alloc, context.count + 1, Vec::new(alloc)));
         }
+        let mut packets = Vec::with_capacity(alloc, 1)?;
         let range = self.content.load.range;
         let generation = self.content.load.generation;
         let next = next_group(alloc, &self.queue, context, range, generation)?;

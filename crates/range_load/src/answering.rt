@@ -54,7 +54,13 @@ pub fn load_reply(
                 return Ok(Progress::Rests);
             }
             match content.load.phase() {
-                LoadPhase::Opening { .. } => opens(content, alloc, context, packet, streams),
+                LoadPhase::Opening { .. } => opens(
+                    content,
+                    alloc,
+                    context,
+                    packet,
+                    streams.lists(),
+                ),
                 _ => Ok(Progress::Rests),
             }
         }

@@ -87,7 +87,7 @@ fn end_log_read(content: &mut RangeContent, alloc: Global, context: &ServerConte
     ensures { content.new ≡ record content.old { log = record (picking context.now content.old.log) { job = jobs.Idle; group = [] } } }
 {
     content.log.pick = context.pick;
-    content.log.end_read(alloc);
+    content.log.end_read();
 }
 
 /// The groups of an extent, which is the one at the position, are read.

@@ -73,7 +73,7 @@ fn end_metadata_read(content: &mut RangeContent, alloc: Global, context: &Server
     ensures { content.new ≡ record content.old { metadata = record (picking context.now content.old.metadata) { job = jobs.Idle; group = [] } } }
 {
     content.metadata.pick = context.pick;
-    content.metadata.end_read(alloc);
+    content.metadata.end_read();
 }
 
 /// The groups of the extent at the position are read.

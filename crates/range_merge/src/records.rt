@@ -74,7 +74,7 @@ fn ready(alloc: Global, written: &MetaRecord) -> Result<Appending, AllocError>
     ensures { IfOk result (λ blocks. blocks ≡ spelling written.now ∷ []) }
 {
     match encode(alloc, written) {
-        Ok(group) => appending_of(alloc, &group),
+        Ok(group) => appending_of(&group),
         Err(_full) => Err(AllocError),
     }
 }

@@ -1,3 +1,4 @@
+pub mod Kept
 pub mod ValueCache
 pub mod Looking
 pub mod Moving

@@ -3,16 +3,15 @@ ghost use Rattle.std.specs.Prelude.{◌≡◌, None, Some, map, IfOk};
 ghost use Rattle.std.specs.List.{list_any};
 ghost use Rattle.client.specs.Requests.{is_same as are_same};
 ghost use Rattle.model_partition.specs.Answering.{get_awaits};
-ghost use Rattle.model_partition.specs.Getting.{are_no_page as no_page, read_at, read_in as found_in};
+ghost use Rattle.model_partition.specs.Getting.{read_at, read_in as found_in};
 ghost use Rattle.model_partition.specs.PlaceReads.{place_of};
 ghost use Rattle.range_reads.specs.Caching.{IsFor};
 ghost use Rattle.model_partition.specs.Range.{refuses as refuses_of};
 ghost use Rattle.wire.specs.declared.refusal.Refusal.TheVariants as refusals;
 
+use crate::kept::Kept;
 use crate::trying::refuses;
 use crate::value_cache::Fresh;
-use bytes::Bytes;
-use checkpoint_format::is_page;
 use model_partition::{PlaceRead, ServerContext, WaitingGet};
 use std::alloc::{AllocError, Global};
 use wire::{ExtentId, Packet, Refusal, ReqNo};
@@ -35,39 +34,28 @@ pub(crate) fn read_of(gets: &[WaitingGet], number: &ReqNo) -> Option<PlaceRead>
     None
 }
 
-/// Whether a page was asked for, and the bytes spell none. It takes no memory.
-pub(crate) fn are_no_page(asked: &Option<PlaceRead>, bytes: &[u8]) -> bool
-    ensures { result ≡ no_page asked.now bytes.now }
-{
-    match asked {
-        None => false,
-        Some(read) => read.page && !is_page(bytes),
-    }
-}
-
 /// The bytes, to be held, if these were asked for.
 pub(crate) fn fresh_of(
     asked: &Option<PlaceRead>,
     extent: ExtentId,
     offset: u32,
-    bytes: &Bytes,
-) -> Result<Option<Fresh>, AllocError>
-    ensures there { IfOk result (λ fresh. IsFor asked.now (place_of extent offset bytes.now)
-        → fresh ≡ Some (record { place = place_of extent offset bytes.now; bytes = bytes.now })) }
-    ensures other { IfOk result (λ fresh. (IsFor asked.now (place_of extent offset bytes.now) → ⊥) → fresh ≡ None) }
+    bytes: Kept,
+) -> Option<Fresh>
+    ensures there { IsFor asked.now (place_of extent offset bytes)
+        → result ≡ Some (record { place = place_of extent offset bytes; bytes = bytes }) }
+    ensures other { (IsFor asked.now (place_of extent offset bytes) → ⊥) → result ≡ None }
 {
     match asked {
-        None => Ok(None),
+        None => None,
         Some(read) => {
             let place = read.place;
             if place.extent.0 == extent.0
                 && place.offset == offset
-                && place.length as usize == bytes.len()
+                && place.length as usize == bytes.bytes().len()
             {
-                let bytes = bytes.clone()?;
-                Ok(Some(Fresh { place, bytes }))
+                Some(Fresh { place, bytes })
             } else {
-                Ok(None)
+                None
             }
         }
     }

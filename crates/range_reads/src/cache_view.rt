@@ -1,8 +1,9 @@
 //! The cache as a source of pages.
 use crate::value_cache::{Fresh, ValueCache};
 use bytes::Bytes;
-use checkpoint::Pages;
+use checkpoint::{Lookup, Pages};
 use memtable::Place;
+use std::alloc::AllocError;
 
 /// What is held, with what has just come, if something has.
 #[derive(Drop)]
@@ -18,6 +19,16 @@ impl Pages for CacheView<'_> {
     ghost source = { λ s. held_at (with_fresh s.held.now s.fresh.now) };
 
     fn page(&self, place: &Place) -> Option<&Bytes> {
-        self.held.value_with(self.fresh, place)
+        match self.held.value_with(self.fresh, place) {
+            None => None,
+            Some(kept) => Some(kept.bytes()),
+        }
+    }
+
+    fn find_at(&self, place: &Place, key: &[u8]) -> Result<Option<Lookup>, AllocError> {
+        match self.held.value_with(self.fresh, place) {
+            None => Ok(Some(Lookup::Need(*place))),
+            Some(kept) => kept.find_at(place, key),
+        }
     }
 }

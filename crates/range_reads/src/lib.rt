@@ -20,6 +20,7 @@ mod asking;
 mod awaited;
 mod cache_view;
 mod giving_up;
+mod kept;
 mod key_lookup;
 mod lookups;
 mod trying;

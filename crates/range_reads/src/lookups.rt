@@ -11,15 +11,16 @@ ghost use Rattle.wire.specs.declared.refusal.Refusal.TheVariants as refusals;
 
 use crate::adding::push_some;
 use crate::asking::Asking;
-use crate::awaited::{are_no_page, fresh_of, read_of, refusals_of, some_awaits};
+use crate::awaited::{fresh_of, read_of, refusals_of, some_awaits};
 use crate::cache_view::CacheView;
 use crate::giving_up::{MovedGets, move_each};
+use crate::kept::Kept;
 use crate::key_lookup::newest_cell;
 use crate::trying::{OneTry, Tries, one_try, try_each};
 use crate::usage::{pages_used, promote_each, promote_some, value_used};
 use crate::value_cache::{Fresh, ValueCache};
 use bytes::Bytes;
-use checkpoint::Pages;
+use checkpoint::{Lookup, Pages};
 use memtable::Place;
 use model_partition::{PlaceReads, ServerContext, WaitingGet};
 use std::alloc::{AllocError, Global};
@@ -68,7 +69,17 @@ impl Pages for Lookups {
     ghost source = { λ l. held_at l.held };
 
     fn page(&self, place: &Place) -> Option<&Bytes> {
-        self.held.value(place)
+        match self.held.value(place) {
+            None => None,
+            Some(kept) => Some(kept.bytes()),
+        }
+    }
+
+    fn find_at(&self, place: &Place, key: &[u8]) -> Result<Option<Lookup>, AllocError> {
+        match self.held.value(place) {
+            None => Ok(Some(Lookup::Need(*place))),
+            Some(kept) => kept.find_at(place, key),
+        }
     }
 }
 
@@ -186,13 +197,14 @@ impl Lookups {
         ensures err { OnErr result (self.new ≡ self.old) }
     {
         let asked = read_of(&self.gets, number);
-        if are_no_page(&asked, bytes) {
+        let kept = Kept::of(alloc, &asked, bytes)?;
+        let Some(kept) = kept else {
             return Ok(Tried {
                 count: asking.context.count,
                 packets: Vec::new(alloc),
             });
-        }
-        let fresh = fresh_of(&asked, extent, offset, bytes)?;
+        };
+        let fresh = fresh_of(&asked, extent, offset, kept);
         let view = CacheView {
             held: &self.held,
             fresh: &fresh,

@@ -7,7 +7,7 @@ ghost use Rattle.lru.specs.LruCache.{promoted};
 ghost use Rattle.model_partition.specs.Getting.{held_at, most_held};
 ghost use Rattle.model_partition.specs.PlaceReads.{is_place};
 
-use bytes::Bytes;
+use crate::kept::Kept;
 use lru::LruCache;
 use memtable::Place;
 use std::alloc::{AllocError, Global};
@@ -49,13 +49,13 @@ fn key_of(place: &Place) -> HeldPlace
 #[derive(Drop)]
 pub(crate) struct Fresh {
     pub(crate) place: Place,
-    pub(crate) bytes: Bytes,
+    pub(crate) bytes: Kept,
 }
 
 /// Pages and values by their places, the most recently used first.
 #[derive(Drop)]
 pub(crate) struct ValueCache {
-    cache: LruCache<HeldPlace, Bytes>,
+    cache: LruCache<HeldPlace, Kept>,
 }
 
 impl Model for ValueCache {
@@ -80,7 +80,7 @@ impl ValueCache {
     }
 
     /// What stands at a place, if it is held.
-    pub(crate) fn value(&self, place: &Place) -> Option<&Bytes>
+    pub(crate) fn value(&self, place: &Place) -> Option<&Kept>
         ensures { option_copied result ≡ held_at self.now place.now }
     {
         self.cache.peek(&key_of(place))
@@ -102,7 +102,7 @@ impl ValueCache {
     }
 
     /// The same, once this has come too.
-    fn value_beside<'a>(&'a self, fresh: &'a Fresh, place: &Place) -> Option<&'a Bytes>
+    fn value_beside<'a>(&'a self, fresh: &'a Fresh, place: &Place) -> Option<&'a Kept>
         ensures { option_copied result ≡ held_at (with_fresh self.now (Some fresh.now)) place.now }
     {
         if *place == fresh.place {
@@ -119,7 +119,7 @@ impl ValueCache {
         &'a self,
         fresh: &'a Option<Fresh>,
         place: &Place,
-    ) -> Option<&'a Bytes>
+    ) -> Option<&'a Kept>
         ensures { option_copied result ≡ held_at (with_fresh self.now fresh.now) place.now }
     {
         match fresh {

@@ -2,7 +2,7 @@
 ghost use Rattle.std.specs.Prelude.{◌≡◌, ◌+◌, ◌<◌, ◌^◌, ◌++◌, ◌∷◌, ℕ, List, Some, None, Err, IfOk, OnOk};
 ghost use Rattle.std.specs.List.{AllByRecursion};
 ghost use Rattle.block_types.specs.declared.fault.BlockFault.TheVariants as faults;
-ghost use Rattle.block_types.specs.Limits.{group_size};
+ghost use Rattle.block_types.specs.Limits.{IsBlock, group_size};
 ghost use Rattle.blocks.specs.Format.{Gives};
 ghost use Rattle.commitlog.specs.Reading.{record_at};
 ghost use Rattle.commitlog.specs.Record.{Fits, spelling};
@@ -22,11 +22,12 @@ use streams::Position;
 use wire::ExtentId;
 
 /// Feeds the blocks to the reader, in order.
-fn feed_all(reader: &mut LogReader, blocks: &[Block]) -> Result<(), AllocError>
+fn feed_all(reader: &mut LogReader, blocks: &[Bytes]) -> Result<(), AllocError>
+    requires { AllByRecursion IsBlock blocks.now }
     ensures { OnOk result (reader.new ≡ reader.old ++ blocks.now) }
 {
     for block in blocks {
-        reader.feed(block)?;
+        reader.feed(&Block::of(block.clone()?))?;
     }
     Ok(())
 }

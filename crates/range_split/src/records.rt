@@ -84,7 +84,7 @@ fn split_append(alloc: Global, number: u64, job: &SplitJob) -> Result<Appending,
         item: MetaItem::SplitStatus { low, high, key },
     };
     match encode(alloc, &record) {
-        Ok(group) => appending_of(alloc, &group),
+        Ok(group) => appending_of(&group),
         Err(_full) => Err(AllocError),
     }
 }
@@ -136,7 +136,7 @@ fn keys_append(alloc: Global, number: u64, keys: KeyRange) -> Result<Appending, 
         item: MetaItem::Ranges { keys },
     };
     match encode(alloc, &record) {
-        Ok(group) => appending_of(alloc, &group),
+        Ok(group) => appending_of(&group),
         Err(_full) => Err(AllocError),
     }
 }

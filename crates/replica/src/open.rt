@@ -1,5 +1,5 @@
 //! A replica that takes groups.
-ghost use Rattle.std.specs.Prelude.{[], ◌∷◌, ◌≡◌, ◌≢◌, ◌⊎◌, ◌+◌, ◌<◌, ◌≤◌, true, false, None, Some, IfOk, IfErr, IsOk, OnOk, MatchResult};
+ghost use Rattle.std.specs.Prelude.{[], ◌∷◌, ◌≡◌, ◌≢◌, ◌⊎◌, ◌+◌, ◌<◌, ◌≤◌, true, false, None, Some, IfOk, IfErr, IsOk, OnOk, OnErr, MatchResult};
 ghost use Rattle.block_types.specs.Limits.{IsTarget};
 ghost use Rattle.replica.specs.Groups.{text_length};
 ghost use Rattle.replica.specs.Content.{new_content, appended, fenced, frozen};
@@ -18,7 +18,6 @@ use crate::sealed::SealedReplica;
 use block_types::{Group, Nodes};
 use std::alloc::{AllocError, Global};
 use std::marker::Model;
-use std::slice;
 
 /// An open replica: it takes groups at its end, while its length is below its target.
 pub struct OpenReplica {
@@ -99,15 +98,32 @@ impl OpenReplica {
         self.kept.held.reserve(groups)
     }
 
-    /// Adds a group at the end, into room that was made.
-    fn add(&mut self, group: &Group)
-        requires room { HasRoom self.old.room (group.now ∷ []) }
-        requires below { text_length self.old.content.groups < self.old.content.target }
-        ensures { self.new.content ≡ appended self.old.content group.now }
+    /// As `put`, where it stands. A refusal leaves it as it was.
+    pub(crate) fn put_in_place(
+        &mut self,
+        generation: u64,
+        offset: u32,
+        group: &Group,
+    ) -> Result<(), PutFault>
+        ensures ok { OnOk result (self.new.content ≡ appended self.old.content group.now) }
+        ensures refused { OnErr result (self.new.content ≡ self.old.content) }
+        ensures fault { MatchResult result (λ _. put_fault self.old.content generation offset ≡ None)
+            (λ e. (e ≡ PutFault.Memory) ⊎ (put_fault self.old.content generation offset ≡ Some e)) }
+        ensures room { HasRoom self.old.room (group.now ∷ []) → IfErr result (λ e. e ≢ PutFault.Memory) }
     {
-        // Asked for, so that the proof knows how long it is at most.
-        let _size = group.size();
-        self.kept.held.push(group);
+        if generation < self.kept.fence {
+            return Err(PutFault::Stale);
+        }
+        if offset != self.kept.held.len() {
+            return Err(PutFault::PastEnd);
+        }
+        if self.kept.held.len() >= self.kept.target {
+            return Err(PutFault::ExtentFull);
+        }
+        match self.kept.held.put(group) {
+            Ok(()) => Ok(()),
+            Err(_full) => Err(PutFault::Memory),
+        }
     }
 
     /// Adds a group of a generation at an offset, which is to be the replica's length. The first reason refuses it:
@@ -125,23 +141,24 @@ impl OpenReplica {
             (λ e. (e.0 ≡ PutFault.Memory) ⊎ (put_fault self.content generation offset ≡ Some e.0)) }
         ensures room { HasRoom self.room (group ∷ []) → IfErr result (λ e. e.0 ≢ PutFault.Memory) }
     {
-        if generation < self.kept.fence {
-            return Err((PutFault::Stale, self, group));
-        }
-        if offset != self.kept.held.len() {
-            return Err((PutFault::PastEnd, self, group));
-        }
-        if self.kept.held.len() >= self.kept.target {
-            return Err((PutFault::ExtentFull, self, group));
-        }
         let mut open = self;
-        match open.reserve(slice::from_ref(&group)) {
-            Ok(()) => {
-                open.add(&group);
-                Ok(open)
-            }
-            Err(_refused) => Err((PutFault::Memory, open, group)),
+        match open.put_in_place(generation, offset, &group) {
+            Ok(()) => Ok(open),
+            Err(fault) => Err((fault, open, group)),
         }
+    }
+
+    /// As `raise`, where it stands. A refusal leaves it as it was.
+    pub(crate) fn raise_in_place(&mut self, generation: u64) -> Result<(), Stale>
+        ensures ok { OnOk result (self.new.content ≡ fenced self.old.content generation) }
+        ensures refused { OnErr result (self.new.content ≡ self.old.content) }
+        ensures fault { MatchResult result (λ _. self.old.content.fence ≤ generation) (λ _. generation < self.old.content.fence) }
+    {
+        if generation < self.kept.fence {
+            return Err(Stale);
+        }
+        self.kept.fence = generation;
+        Ok(())
     }
 
     /// Raises the fence to a generation. One below the fence is refused (3), which hands the replica back as it was.
@@ -150,12 +167,11 @@ impl OpenReplica {
         ensures refused { IfErr result (λ e. e.1.content ≡ self.content) }
         ensures fault { MatchResult result (λ _. self.content.fence ≤ generation) (λ _. generation < self.content.fence) }
     {
-        if generation < self.kept.fence {
-            return Err((Stale, self));
-        }
         let mut open = self;
-        open.kept.fence = generation;
-        Ok(open)
+        match open.raise_in_place(generation) {
+            Ok(()) => Ok(open),
+            Err(stale) => Err((stale, open)),
+        }
     }
 
     /// Takes no more groups.

@@ -2,7 +2,7 @@
 ghost use Rattle.std.specs.Prelude.{◌≡◌, ◌-◌, ◌≤◌, ◌++◌, take, drop, length, IfOk, OnOk};
 ghost use Rattle.replica.specs.Groups.{text, joined};
 
-use block_types::{Block, Group};
+use block_types::Group;
 use bytes::Bytes;
 use std::alloc::{AllocError, Global};
 
@@ -24,13 +24,6 @@ pub(crate) fn copy_part(
     }
 }
 
-/// Copies a block's bytes from one on, at most so many.
-fn copy_block(out: &mut Vec<u8>, block: &Block, from: usize, most: usize) -> Result<(), AllocError>
-    ensures { OnOk result (out.new.items ≡ out.old.items ++ take most (drop from block.now)) }
-{
-    copy_part(out, block.as_slice(), from, most)
-}
-
 /// Copies a group's bytes from one on, at most so many.
 fn copy_group(out: &mut Vec<u8>, group: &Group, from: usize, most: usize) -> Result<(), AllocError>
     ensures { OnOk result (out.new.items ≡ out.old.items ++ take most (drop from (joined group.now))) }
@@ -39,8 +32,8 @@ fn copy_group(out: &mut Vec<u8>, group: &Group, from: usize, most: usize) -> Res
     let mut most = most;
     for block in group.blocks() {
         let before = out.len();
-        copy_block(out, block, from, most)?;
-        from = from.saturating_sub(block.as_slice().len());
+        copy_part(out, block.as_slice(), from, most)?;
+        from = from.saturating_sub(block.len());
         most -= out.len() - before;
     }
     Ok(())

@@ -1,7 +1,7 @@
 //! The text of groups, and where each of them and of their blocks ends, so that a place is found by a search.
 ghost use Rattle.std.specs.Prelude.{◌≡◌, ◌+◌, ◌-◌, ◌<◌, ◌≤◌, ◌^◌, ◌++◌, [], ◌∷◌, take, drop, get_or, length, nat_le, vec_len, vec_capacity, IfNone, IfOk, IfSome, IsOk, OnOk, OnErr, MatchResult};
 ghost use Rattle.std.specs.List.{AllByRecursion};
-ghost use Rattle.block_types.specs.Limits.{IsBlock};
+ghost use Rattle.block_types.specs.Limits.{IsBlock, group_size};
 ghost use Rattle.replica.specs.Groups.{joined, size, text_length};
 ghost use Rattle.replica.specs.Placed.{IsBefore, first, found_or};
 ghost use Rattle.replica.specs.Reading.{bytes_at, groups_to, groups_from};
@@ -12,7 +12,7 @@ ghost use Rattle.replica.specs.Spelled.{block_sizes, blocks_of};
 use crate::buffers::Buffers;
 use crate::ends::Ends;
 use crate::fault::PastEnd;
-use block_types::{Block, Group, Groups};
+use block_types::{Group, Groups};
 use bytes::Bytes;
 use std::alloc::{AllocError, Global};
 use std::marker::Model;
@@ -73,7 +73,8 @@ fn needs_of(groups: &[Group]) -> Option<Needs>
 }
 
 /// Adds the bytes of blocks at the end of a text, and their sizes at the end of a list, into room that was made.
-fn add_blocks(text: &mut Buffers, sizes: &mut Vec<u32>, blocks: &[Block])
+fn add_blocks(text: &mut Buffers, sizes: &mut Vec<u32>, blocks: &[Bytes])
+    requires blocks { AllByRecursion IsBlock blocks.now }
     requires text { size blocks.now ≤ text.old.spare }
     requires sizes { vec_len sizes.old + length blocks.now ≤ vec_capacity sizes.old }
     ensures bytes { text.new.bytes ≡ text.old.bytes ++ joined blocks.now }
@@ -95,7 +96,7 @@ fn blocks_at(
     text: &Buffers,
     offset: u32,
     sizes: &[u32],
-) -> Result<Vec<Block>, AllocError>
+) -> Result<Vec<Bytes>, AllocError>
     requires blocks { AllByRecursion IsBlock (blocks_of sizes.now (drop offset text.now.bytes)) }
     requires few { length sizes.now ≤ 64 }
     ensures { IfOk result (λ blocks. blocks.items ≡ blocks_of sizes.now (drop offset text.now.bytes)) }
@@ -103,8 +104,7 @@ fn blocks_at(
     let mut at = offset as usize;
     let mut blocks = Vec::with_capacity(alloc, sizes.len())?;
     for size in sizes {
-        let bytes = text.piece(alloc, at, *size as usize)?;
-        blocks.push(Block::of(bytes))?;
+        blocks.push(text.piece(alloc, at, *size as usize)?)?;
         at += *size as usize;
     }
     Ok(blocks)
@@ -149,20 +149,56 @@ impl PlacedGroups {
         let Some(needs) = needs_of(groups) else {
             return Err(AllocError);
         };
-        self.text.reserve(needs.text)?;
-        self.sizes.reserve(needs.blocks)?;
-        self.lasts.reserve(groups.len())?;
-        self.ends.reserve(groups.len())
+        self.make_room(needs.text, needs.blocks, groups.len())
+    }
+
+    /// Makes room for so many bytes, blocks and groups. Without memory nothing has changed but room.
+    fn make_room(&mut self, text: usize, blocks: usize, groups: usize) -> Result<(), AllocError>
+        ensures same { self.new.groups ≡ self.old.groups }
+        ensures room { OnOk result ((text ≤ self.new.room.text) × (blocks ≤ self.new.room.blocks) × (groups ≤ self.new.room.groups)) }
+        ensures ready { (text ≤ self.old.room.text) × (blocks ≤ self.old.room.blocks) × (groups ≤ self.old.room.groups) → IsOk result }
+    {
+        self.text.reserve(text)?;
+        self.sizes.reserve(blocks)?;
+        self.lasts.reserve(groups)?;
+        self.ends.reserve(groups)
+    }
+
+    /// Adds a group at the end, and makes room for it first. Where there is room for it it takes no memory. Without memory
+    /// nothing has changed but room.
+    pub(crate) fn put(&mut self, group: &Group) -> Result<(), AllocError>
+        requires below { text_length self.old.groups < 4290000000 }
+        ensures ok { OnOk result (self.new.groups ≡ self.old.groups ++ group.now ∷ []) }
+        ensures err { OnErr result (self.new.groups ≡ self.old.groups) }
+        ensures ready { HasRoom self.old.room (group.now ∷ []) → IsOk result }
+        ensures within { text_length self.new.groups ≤ text_length self.old.groups + 4194304 }
+    {
+        let size = group.size();
+        self.make_room(size as usize, group.blocks().len(), 1)?;
+        self.push_sized(group, size);
+        Ok(())
     }
 
     /// Adds a group at the end, into room that was made.
-    pub(crate) fn push(&mut self, group: &Group)
+    fn push(&mut self, group: &Group)
         requires room { HasRoom self.old.room (group.now ∷ []) }
         requires below { text_length self.old.groups < 4290000000 }
         ensures value { self.new.groups ≡ self.old.groups ++ group.now ∷ [] }
         ensures room { TakesRoom self.old.room self.new.room group.now }
     {
-        let end = self.length + group.size();
+        self.push_sized(group, group.size());
+    }
+
+    /// As `push` of a group of so many bytes.
+    fn push_sized(&mut self, group: &Group, size: u32)
+        requires sized { size ≡ group_size group.now }
+        requires bound { size ≤ 4194304 }
+        requires room { HasRoom self.old.room (group.now ∷ []) }
+        requires below { text_length self.old.groups < 4290000000 }
+        ensures value { self.new.groups ≡ self.old.groups ++ group.now ∷ [] }
+        ensures room { TakesRoom self.old.room self.new.room group.now }
+    {
+        let end = self.length + size;
         add_blocks(&mut self.text, &mut self.sizes, group.blocks());
         self.lasts.push_reserved(self.sizes.len() as u32);
         self.ends.push(end);

@@ -225,51 +225,49 @@ impl Replica {
     /// Adds a group of a generation at an offset to an open replica, as [`OpenReplica::put`] does. The first reason
     /// refuses it: 3 (the generation is below the fence), 8 (another offset), 7 (the length has reached the target), 22. A
     /// refusal leaves the replica as it was. Where there is room for the group it takes no memory.
-    pub fn put(
-        &mut self,
-        alloc: Global,
-        generation: u64,
-        offset: u32,
-        group: Group,
-    ) -> Result<(), PutFault>
+    pub fn put(&mut self, generation: u64, offset: u32, group: &Group) -> Result<(), PutFault>
         requires { is_open (content_of self.old).phase ≡ true }
-        ensures ok { OnOk result (content_of self.new ≡ appended (content_of self.old) group) }
+        ensures ok { OnOk result (content_of self.new ≡ appended (content_of self.old) group.now) }
         ensures refused { OnErr result (content_of self.new ≡ content_of self.old) }
         ensures fault { MatchResult result (λ _. put_fault (content_of self.old) generation offset ≡ None)
             (λ e. (e ≡ PutFault.Memory) ⊎ (put_fault (content_of self.old) generation offset ≡ Some e)) }
-        ensures room { HasRoom (room_of self.old) (group ∷ []) → IfErr result (λ e. e ≢ PutFault.Memory) }
+        ensures room { HasRoom (room_of self.old) (group.now ∷ []) → IfErr result (λ e. e ≢ PutFault.Memory) }
     {
-        let open = self.take(alloc).into_open();
-        match open.put(generation, offset, group) {
-            Ok(open) => {
-                *self = Replica::Open(open);
-                Ok(())
+        match self {
+            Replica::Open(open) => open.put_in_place(generation, offset, group),
+            Replica::Frozen(frozen) => {
+                // Asked for, so that the proof knows that it is not open.
+                let _frozen = frozen.state();
+                unreachable!()
             }
-            Err((fault, open, _group)) => {
-                *self = Replica::Open(open);
-                Err(fault)
+            Replica::Sealed(sealed) => {
+                // Asked for, so that the proof knows that it is not open.
+                let _sealed = sealed.state();
+                unreachable!()
             }
         }
     }
 
     /// Raises the fence of an open replica to a generation, as [`OpenReplica::raise`] does. One below the fence is
     /// refused (3), which leaves the replica as it was. Takes no memory.
-    pub fn raise(&mut self, alloc: Global, generation: u64) -> Result<(), Stale>
+    pub fn raise(&mut self, generation: u64) -> Result<(), Stale>
         requires { is_open (content_of self.old).phase ≡ true }
         ensures ok { OnOk result (content_of self.new ≡ fenced (content_of self.old) generation) }
         ensures refused { OnErr result (content_of self.new ≡ content_of self.old) }
         ensures fault { MatchResult result (λ _. (content_of self.old).fence ≤ generation)
             (λ _. generation < (content_of self.old).fence) }
     {
-        let open = self.take(alloc).into_open();
-        match open.raise(generation) {
-            Ok(open) => {
-                *self = Replica::Open(open);
-                Ok(())
+        match self {
+            Replica::Open(open) => open.raise_in_place(generation),
+            Replica::Frozen(frozen) => {
+                // Asked for, so that the proof knows that it is not open.
+                let _frozen = frozen.state();
+                unreachable!()
             }
-            Err((stale, open)) => {
-                *self = Replica::Open(open);
-                Err(stale)
+            Replica::Sealed(sealed) => {
+                // Asked for, so that the proof knows that it is not open.
+                let _sealed = sealed.state();
+                unreachable!()
             }
         }
     }

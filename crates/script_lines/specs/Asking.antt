@@ -38,7 +38,7 @@ abbrev pub asked : ℕ → ReqNo → Request → Event
 asked user number (requests.Create kind) = call_by user (bodies.Stream (streams.CreateStream (stream_of kind) 0 number))
 asked user number (requests.Extend kind last pick) = call_by user (bodies.Stream (streams.Extend (stream_of kind) 0 last pick number))
 asked user number (requests.Append node extent blocks) =
-    Submit user (actors.Node node) (bodies.Append (appends.Append extent 0 blocks.items number))
+    Submit user (actors.Node node) (bodies.Append (appends.Append extent 0 blocks number))
 asked user number (requests.Read node extent offset length) = read_by user node (reads.ReadAt extent offset length number)
 asked user number (requests.Content node extent upto) = read_by user node (reads.ReadGroups extent upto true number)
 asked user number (requests.Transact server range changes) = ask_by user server (tables.Transact range changes number)

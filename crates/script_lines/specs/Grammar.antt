@@ -21,7 +21,7 @@ abbrev pub Asks : Request → List (List ℕ) → Type 0
 Asks (requests.Create kind) = says (codes "create") then IsKind kind then end
 Asks (requests.Extend kind last pick) = says (codes "extend") then IsKind kind then IsLast last then AreNodes pick
 Asks (requests.Append node extent blocks) =
-    says (codes "append") then IsNode node then Denotes extent then each (λ bytes word. IsValue word bytes) blocks.items
+    says (codes "append") then IsNode node then Denotes extent then each (λ bytes word. IsValue word bytes) blocks
 Asks (requests.Read node extent offset length) =
     says (codes "read") then IsNode node then Denotes extent then IsPlace offset then IsPlace length then end
 Asks (requests.Content node extent upto) =

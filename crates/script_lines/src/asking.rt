@@ -70,13 +70,13 @@ fn seal(number: ReqNo, extent: u64) -> (ActorId, Body)
 }
 
 /// An append at a primary.
-fn append(number: ReqNo, node: u8, extent: u64, blocks: Vec<Bytes>) -> (ActorId, Body)
+fn append(number: ReqNo, node: u8, extent: u64, blocks: Blocks) -> (ActorId, Body)
     ensures { IsCall number (requests.Append node extent blocks) result }
 {
     let body = AppendBody::Append {
         extent: ExtentId(extent),
         generation: Fence(0),
-        blocks: Blocks { items: blocks },
+        blocks,
         request: number,
     };
     (ActorId::Node(node), Body::Append(body))

@@ -2,7 +2,7 @@
 use crate::boxed_event::BoxedEvent;
 use block_types::Nodes;
 use bytes::Bytes;
-use wire::{ActorId, Changes, ServerNo, StreamKind};
+use wire::{ActorId, Blocks, Changes, ServerNo, StreamKind};
 
 /// What a user asks for.
 #[derive(Drop)]
@@ -21,7 +21,7 @@ pub enum Request {
     Append {
         node: u8,
         extent: u64,
-        blocks: Vec<Bytes>,
+        blocks: Blocks,
     },
     /// So many bytes of a replica, from an offset on.
     Read {

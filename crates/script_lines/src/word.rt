@@ -8,9 +8,8 @@ ghost use Rattle.script_lines.specs.Words.{Denotes, DenotesUpTo, IsActor, IsChan
 
 use crate::copies::{Copies, joined, spelled_out};
 use crate::spelling::{key, number, value};
-use bytes::Bytes;
 use std::alloc::{AllocError, Global};
-use wire::{ActorId, Change, Changes, ServerNo, StreamKind};
+use wire::{ActorId, Blocks, Change, Changes, ServerNo, StreamKind};
 
 /// The most bytes of a value that shares memory with its key, so that no key holds much more than itself.
 const MOST_SHARED: usize = 4096;
@@ -189,14 +188,21 @@ fn values<'a>(alloc: Global, words: &[&'a str]) -> Result<Option<Vec<Copies<'a>>
 }
 
 /// The blocks of these words, which share one piece of memory.
-pub fn blocks(alloc: Global, words: &[&str]) -> Result<Option<Vec<Bytes>>, AllocError>
+pub fn blocks(alloc: Global, words: &[&str]) -> Result<Option<Blocks>, AllocError>
     ensures { IfOk result (λ blocks. Reads
-        (λ list texts. each (λ bytes text. IsValue text bytes) list.items texts) blocks (map (λ w. w.now) words.now)) }
+        (λ list texts. each (λ bytes text. IsValue text bytes) list texts) blocks (map (λ w. w.now) words.now)) }
 {
     match values(alloc, words)? {
-        Some(values) => Ok(Some(spelled_out(alloc, values.as_slice())?)),
+        Some(values) => Ok(Some(blocks_of(alloc, values.as_slice())?)),
         None => Ok(None),
     }
+}
+
+/// The blocks that these parts come to.
+fn blocks_of(alloc: Global, parts: &[Copies<'_>]) -> Result<Blocks, AllocError>
+    ensures { IfOk result (λ blocks. blocks ≡ map bytes_of parts.now) }
+{
+    Blocks::of(spelled_out(alloc, parts)?)
 }
 
 /// The changes of these words.

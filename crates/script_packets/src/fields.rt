@@ -42,8 +42,8 @@ fn write_append<W: fmt::Write>(f: &mut fmt::Formatter<W>, body: &AppendBody) -> 
                 ("request", Request(request)),
                 ("extent", Number(extent.0)),
                 ("generation", Number(generation.0)),
-                ("blocks", Number(blocks.items.len() as u64)),
-                ("bytes", Number(size_of_blocks(&blocks.items))),
+                ("blocks", Number(blocks.as_slice().len() as u64)),
+                ("bytes", Number(size_of_blocks(blocks.as_slice()))),
             ],
         ),
         AppendBody::Put {
@@ -312,16 +312,19 @@ fn write_stream<W: fmt::Write>(f: &mut fmt::Formatter<W>, body: &StreamBody) -> 
             generation,
             request,
         } => write_range(f, request, *range, *generation),
-        StreamBody::Opened { request, streams } => write_fields(
-            f,
-            &[
-                ("request", Request(request)),
-                ("metadata", List(&streams.metadata)),
-                ("log", List(&streams.log)),
-                ("row_data", List(&streams.row_data)),
-                ("blob_data", List(&streams.blob_data)),
-            ],
-        ),
+        StreamBody::Opened { request, streams } => {
+            let lists = streams.lists();
+            write_fields(
+                f,
+                &[
+                    ("request", Request(request)),
+                    ("metadata", List(&lists.metadata)),
+                    ("log", List(&lists.log)),
+                    ("row_data", List(&lists.row_data)),
+                    ("blob_data", List(&lists.blob_data)),
+                ],
+            )
+        }
         StreamBody::Extend {
             stream,
             generation,

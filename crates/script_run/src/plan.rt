@@ -54,23 +54,32 @@ fn is_within(line: &Line, setup: &Setup) -> bool
     }
 }
 
-/// The line that this text spells, if it is one. An error is out of memory (22).
-fn parsed(alloc: Global, line: &str) -> Result<Option<Line>, AllocError>
+/// The line that this text spells, if it is one. Its words are in `words` after. An error is out of memory (22).
+fn parsed<'a>(
+    alloc: Global,
+    line: &'a str,
+    words: &mut Vec<&'a str>,
+) -> Result<Option<Line>, AllocError>
     ensures found { IfOk result (λ read. IfSome read (λ found. Spells found (words_of line.now))) }
     ensures none { IfOk result (λ read. IfNone read ((found : Line) → Spells found (words_of line.now) → ⊥)) }
 {
-    match script_lines::words(alloc, line) {
-        Ok(words) => script_lines::parse(alloc, words.as_slice()),
+    match script_lines::words_into(line, words) {
+        Ok(()) => script_lines::parse(alloc, words.as_slice()),
         Err(refused) => Err(refused),
     }
 }
 
 /// The line below a setup that this text spells, if it is one. An error is out of memory (22).
-fn read_line(alloc: Global, text: &str, setup: &Setup) -> Result<Option<Line>, AllocError>
+fn read_line<'a>(
+    alloc: Global,
+    text: &'a str,
+    setup: &Setup,
+    words: &mut Vec<&'a str>,
+) -> Result<Option<Line>, AllocError>
     ensures found { IfOk result (λ read. IfSome read (λ line. SpellsLine (size_of setup.now) text.now line)) }
     ensures none { IfOk result (λ read. IfNone read ((line : Line) → SpellsLine (size_of setup.now) text.now line → ⊥)) }
 {
-    match parsed(alloc, text) {
+    match parsed(alloc, text, words) {
         Ok(Some(line)) if is_within(&line, setup) => Ok(Some(line)),
         Ok(_) => Ok(None),
         Err(refused) => Err(refused),
@@ -79,11 +88,12 @@ fn read_line(alloc: Global, text: &str, setup: &Setup) -> Result<Option<Line>, A
 
 /// Reads the next line, the setup or one below it, and answers whether a script may go on so. Empty lines are passed over.
 /// An error is out of memory (22).
-fn read_next(
+fn read_next<'a>(
     alloc: Global,
-    line: &[u8],
+    line: &'a [u8],
     setup: &mut Option<Setup>,
     plan: &mut Vec<Line>,
+    words: &mut Vec<&'a str>,
 ) -> Result<bool, AllocError>
     ensures read { IfOk result (λ read. read ≡ true → (before : List (List ℕ))
         → IsDraft before (size_if setup.old) plan.old.items → IsDraft (before ++ line.now ∷ []) (size_if setup.new) plan.new.items) }
@@ -104,7 +114,7 @@ fn read_next(
             }
             None => Ok(false),
         },
-        Some(size) => match read_line(alloc, text, &size)? {
+        Some(size) => match read_line(alloc, text, &size, words)? {
             Some(line) => {
                 plan.push(line)?;
                 Ok(true)
@@ -123,9 +133,10 @@ pub fn read_plan(alloc: Global, text: &[u8]) -> Result<Plan, Failure>
 {
     let texts = lines_of(alloc, text)?;
     let mut setup = None;
-    let mut plan = Vec::new(alloc);
+    let mut plan = Vec::with_capacity(alloc, texts.len())?;
+    let mut words = Vec::new(alloc);
     for (index, line) in texts.iter().enumerate() {
-        if !read_next(alloc, line, &mut setup, &mut plan)? {
+        if !read_next(alloc, line, &mut setup, &mut plan, &mut words)? {
             return Err(Failure::BadScript(index + 1));
         }
     }

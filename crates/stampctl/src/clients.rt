@@ -146,7 +146,7 @@ fn opened(
     }
     match &answer.body {
         Body::Stream(StreamBody::Opened { streams, .. }) => {
-            log_of(alloc, number, &streams.log).ok()
+            log_of(alloc, number, &streams.lists().log).ok()
         }
         _ => None,
     }
@@ -289,7 +289,7 @@ fn begun(sent: Result<Packet, ClientFault>) -> Option<Reaction> {
 /// An append of "abc".
 fn appending(alloc: Global) -> Result<Appending, AllocError> {
     let blocks = abc(alloc)?;
-    let made = Appending::of(alloc, &blocks);
+    let made = Appending::of(&blocks);
     drop(blocks);
     made
 }

@@ -57,7 +57,7 @@ fn extend() -> StreamBody {
 pub(crate) fn abc(alloc: Global) -> Result<Blocks, AllocError> {
     let mut blocks = Vec::new(alloc);
     blocks.push(Bytes::copy_from_slice(alloc, b"abc")?)?;
-    Ok(Blocks { items: blocks })
+    Blocks::of(blocks)
 }
 
 fn append(blocks: Blocks) -> AppendBody {

@@ -107,10 +107,12 @@ fn told_of(list: &StreamList) -> (usize, Option<u32>) {
 fn stream_says(body: &StreamBody, wanted: Answer) -> bool {
     match (body, wanted) {
         (StreamBody::Opened { streams, .. }, Answer::Opens(extents, first)) => {
-            told_of(&streams.row_data) == (extents, first) && told_of(&streams.log) == (0, None)
+            let lists = streams.lists();
+            told_of(&lists.row_data) == (extents, first) && told_of(&lists.log) == (0, None)
         }
         (StreamBody::Opened { streams, .. }, Answer::OpensLog(base, extents)) => {
-            streams.log.base == base && streams.log.extents.items.len() == extents
+            let log = &streams.lists().log;
+            log.base == base && log.extents.items.len() == extents
         }
         (StreamBody::Confirmed { .. }, Answer::Confirms) => true,
         (StreamBody::Trimmed { .. }, Answer::Trims) => true,

@@ -81,13 +81,13 @@ fn two_blocks(alloc: Global) -> Result<Appending, AllocError> {
     let mut items = Vec::new(alloc);
     items.push(Bytes::copy_from_slice(alloc, b"abc")?)?;
     items.push(Bytes::copy_from_slice(alloc, b"de")?)?;
-    Appending::of(alloc, &Blocks { items })
+    Appending::of(&Blocks::of(items)?)
 }
 
 fn one_block(alloc: Global) -> Result<Appending, AllocError> {
     let mut items = Vec::new(alloc);
     items.push(Bytes::copy_from_slice(alloc, b"abc")?)?;
-    Appending::of(alloc, &Blocks { items })
+    Appending::of(&Blocks::of(items)?)
 }
 
 /// Begins an append, if there was memory for it.
@@ -190,7 +190,7 @@ fn is_append(packet: &Packet, node: u8, extent: u64, count: u64) -> bool {
             packet.to == ActorId::Node(node)
                 && to.0 == extent
                 && generation.0 == 2
-                && blocks.items.len() == 2
+                && blocks.as_slice().len() == 2
                 && *request == number(count)
         }
         _ => false,
@@ -323,7 +323,7 @@ fn knows(client: &mut StreamClient, alloc: Global, known: &Known) -> bool {
         Known::Awaits(count, awaited) => client.awaits(&number(*count)) == *awaited,
         Known::Content(count, brought) => brings_content(client, alloc, *count) == *brought,
         Known::ReadEnded => {
-            client.end_read(alloc);
+            client.end_read();
             matches!(client.job, Job::Idle)
         }
         Known::Extents(count) => client.extents.len() == *count,

@@ -1,9 +1,12 @@
 //! What no clause says: that calls succeed, and that the spelling is that of docs/FORMATS.md.
 ghost use Rattle.std.specs.Prelude.{IfOk};
+ghost use Rattle.std.specs.List.{AllByRecursion};
+ghost use Rattle.block_types.specs.Limits.{IsBlock};
 ghost use Rattle.commitlog.specs.Record.{Fits};
 
 use crate::groups::{group_of, has_blocks};
 use block_types::{Block, BlockFault, Group};
+use bytes::Bytes;
 use commitlog::{GroupText, LogReader, LogRecord, Replay, cells, decode, encode, one_spelling};
 use memtable::{Cell, Place};
 use std::alloc::{AllocError, Global};
@@ -83,10 +86,12 @@ fn is_spelled_again(alloc: Global, texts: &[&[u8]]) -> Result<bool, BlockFault> 
     Ok(has_blocks(spelled?, texts))
 }
 
-fn fed(alloc: Global, blocks: &[Block]) -> Result<LogReader, AllocError> {
+fn fed(alloc: Global, blocks: &[Bytes]) -> Result<LogReader, AllocError>
+    requires { AllByRecursion IsBlock blocks.now }
+{
     let mut reader = LogReader::new(alloc);
     for block in blocks {
-        reader.feed(block)?;
+        reader.feed(&Block::of(block.clone()?))?;
     }
     Ok(reader)
 }

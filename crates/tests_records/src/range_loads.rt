@@ -1,10 +1,10 @@
 //! The opening of a range by its server.
 use crate::clients::{number, number_in, refused};
 use client::{LoadPhase, RangeLoad, StreamClient};
-use std::alloc::Global;
+use std::alloc::{AllocError, Global};
 use wire::{
-    ActorId, Body, Fence, Packet, RangeId, Refusal, ServerNo, StreamBody, StreamExtents,
-    StreamList, StreamLists,
+    ActorId, Body, Fence, OpenedStreams, Packet, RangeId, Refusal, ServerNo, StreamBody,
+    StreamExtents, StreamList, StreamLists,
 };
 
 fn no_extents(alloc: Global) -> StreamList {
@@ -16,16 +16,17 @@ fn no_extents(alloc: Global) -> StreamList {
     }
 }
 
-fn opened(alloc: Global, session: u64) -> Body {
-    Body::Stream(StreamBody::Opened {
+fn opened(alloc: Global, session: u64) -> Result<Body, AllocError> {
+    let lists = StreamLists {
+        metadata: no_extents(alloc),
+        log: no_extents(alloc),
+        row_data: no_extents(alloc),
+        blob_data: no_extents(alloc),
+    };
+    Ok(Body::Stream(StreamBody::Opened {
         request: number_in(session, 1),
-        streams: StreamLists {
-            metadata: no_extents(alloc),
-            log: no_extents(alloc),
-            row_data: no_extents(alloc),
-            blob_data: no_extents(alloc),
-        },
-    })
+        streams: OpenedStreams::of(alloc, lists)?,
+    }))
 }
 
 fn confirmed() -> Body {
@@ -42,6 +43,14 @@ fn told(load: &mut RangeLoad, body: Body) -> LoadPhase {
     let phase = load.on_reply(&packet);
     drop(packet);
     phase
+}
+
+/// How far the load is once the streams are opened in a session; nothing where memory ran out.
+fn told_opened(load: &mut RangeLoad, alloc: Global, session: u64) -> Option<LoadPhase> {
+    match opened(alloc, session) {
+        Ok(body) => Some(told(load, body)),
+        Err(_full) => None,
+    }
 }
 
 /// What a load asks for.
@@ -103,14 +112,14 @@ fn begun() -> (RangeLoad, bool) {
 
 fn opens_other(load: &mut RangeLoad, alloc: Global) -> bool {
     asks(load.confirm(&number(2)), &Asked::Nothing)
-        && told(load, opened(alloc, 2)) == LoadPhase::Opening { request: number(1) }
+        && told_opened(load, alloc, 2) == Some(LoadPhase::Opening { request: number(1) })
         && load.awaits(&number(1))
         && is_of_load(load.range, load.generation)
         && asks(load.give_up(), &Asked::Open)
 }
 
 fn opens_own(load: &mut RangeLoad, alloc: Global) -> bool {
-    told(load, opened(alloc, 1)) == LoadPhase::Opened && asks(load.give_up(), &Asked::Nothing)
+    told_opened(load, alloc, 1) == Some(LoadPhase::Opened) && asks(load.give_up(), &Asked::Nothing)
 }
 
 fn is_confirmed(load: &mut RangeLoad) -> bool {
@@ -132,7 +141,7 @@ fn counts_once_confirmed(rt: HostRuntime) {
 }
 
 fn is_fenced(load: &mut RangeLoad, alloc: Global) -> bool {
-    told(load, opened(alloc, 1)) == LoadPhase::Opened
+    told_opened(load, alloc, 1) == Some(LoadPhase::Opened)
         && asks(load.confirm(&number(2)), &Asked::Confirm)
         && told(load, refused(2, Refusal::Stale)) == LoadPhase::Fenced
         && told(load, confirmed()) == LoadPhase::Fenced

@@ -1,7 +1,7 @@
 //! Replicas whose text goes over the ends of buffers, which have 65,536 bytes each.
 use crate::cases::{Subject, holds};
 use Event::{Cut, GroupsFrom, GroupsTo, Holds, Puts, Reads, ReadsInto};
-use block_types::{Block, Group, GroupFault, Nodes};
+use block_types::{Group, GroupFault, Nodes};
 use bytes::Bytes;
 use replica::{Phase, Replica};
 use std::alloc::{AllocError, Global};
@@ -77,7 +77,7 @@ fn put(alloc: Global, kept: &mut Replica, sizes: &[usize]) -> bool {
     };
     let offset = kept.len();
     match group_at(alloc, offset, sizes) {
-        Ok(group) => kept.put(alloc, 0, offset, group).is_ok(),
+        Ok(group) => kept.put(0, offset, &group).is_ok(),
         Err(_fault) => false,
     }
 }
@@ -116,7 +116,7 @@ fn reads_into(alloc: Global, kept: &Replica, offset: u32, count: usize) -> bool 
 }
 
 /// Where blocks end that begin at an offset, if they are the bytes from there on.
-fn end_of_blocks(blocks: &[Block], offset: usize) -> Option<usize> {
+fn end_of_blocks(blocks: &[Bytes], offset: usize) -> Option<usize> {
     let mut at = offset;
     for block in blocks {
         let bytes = block.as_slice();

@@ -352,17 +352,17 @@ fn put_in_place(
     let Ok(group) = group_of(alloc, &[text]) else {
         return false;
     };
-    match kept.put(alloc, generation, offset, group) {
+    match kept.put(generation, offset, &group) {
         Ok(()) => wanted.is_none(),
         Err(fault) => wanted == Some(fault),
     }
 }
 
-fn raise(alloc: Global, kept: &mut Replica, generation: u64, wanted: Option<Stale>) -> bool {
+fn raise(kept: &mut Replica, generation: u64, wanted: Option<Stale>) -> bool {
     let Open = kept.state() else {
         return false;
     };
-    match kept.raise(alloc, generation) {
+    match kept.raise(generation) {
         Ok(()) => wanted.is_none(),
         Err(stale) => wanted == Some(stale),
     }
@@ -456,7 +456,7 @@ impl Subject for Replica {
             PutsInPlace(generation, offset, text, wanted) => {
                 put_in_place(alloc, self, generation, offset, text, wanted)
             }
-            RaisesInPlace(generation, wanted) => raise(alloc, self, generation, wanted),
+            RaisesInPlace(generation, wanted) => raise(self, generation, wanted),
             FreezesInPlace => freeze(alloc, self),
             SealsInPlace(length) => seal(alloc, self, length),
             FillsInPlace(from, end, texts, wanted) => {

@@ -234,24 +234,25 @@ fn other(block: &Block) -> Result<Block, AllocError> {
 }
 
 /// A group that shares the bytes of a block.
-fn shared(alloc: Global, block: &Block) -> Result<Group, AllocError> {
-    let bytes = other(block)?.share()?;
-    Group::shared(alloc, &[bytes])
+fn only(alloc: Global, block: &Block) -> Result<Group, AllocError> {
+    let mut blocks = Vec::new(alloc);
+    blocks.push(other(block)?.share()?)?;
+    Group::of(blocks)
 }
 
-fn only(alloc: Global, block: Block) -> Result<Group, AllocError> {
-    let mut blocks = Vec::new(alloc);
-    blocks.push(block)?;
-    Group::of(blocks)
+/// A group that shares the list of another.
+fn shared(group: &Group) -> Result<Group, AllocError> {
+    Group::shared(&group.share()?)
 }
 
 /// Whether a group that shares a block has so many bytes, copied, and stands in groups after one of the block.
 fn are_shared(alloc: Global, groups: &mut Groups) -> Result<bool, AllocError> {
     let block = Block::copied(alloc, b"abc")?;
     let is_same = other(&block)?.as_slice() == b"abc".as_slice();
-    let shared = shared(alloc, &block)?;
+    let only = only(alloc, &block)?;
+    let shared = shared(&only)?;
     let size = shared.copy()?.size();
-    groups.items.push(only(alloc, block)?)?;
+    groups.items.push(only)?;
     groups.items.push(shared)?;
     Ok(is_same && size == 3 && groups.items.len() == 2)
 }

@@ -4,7 +4,7 @@ ghost use Rattle.memtable.specs.Cell.{IsCell};
 
 use crate::asking::{context, extent, number};
 use crate::cases::{Case, Tested, holds};
-use crate::records::{INDEX, NO_PAGE, PAGE};
+use crate::records::{NO_PAGE, PAGE};
 use bytes::Bytes;
 use checkpoint::{InstalledIndex, InstalledIndexes};
 use checkpoint_format::decode;
@@ -24,6 +24,8 @@ pub(crate) enum Call {
     Bytes(u32),
     /// The read of this number brings these bytes from 0 on.
     Page(u32, &'static [u8]),
+    /// The read of this number brings the page of `g` from 200 on.
+    LongPage(u32),
     GiveUp,
 }
 
@@ -52,6 +54,15 @@ pub(crate) enum Step {
     /// So many are refused.
     Refuses(usize),
 }
+
+/// An index of two pages of the extent 7: one that begins with `c`, at 0, and one that begins with `g`, at 200.
+const TWO_PAGES: &[u8] = &[
+    0, 0, 0, 47, 0, 0, 0, 2, 0, 0, 1, b'c', 0, 0, 0, 0, 0, 0, 0, 7, 0, 0, 0, 0, 0, 0, 0, 11, 0, 1,
+    b'g', 0, 0, 0, 0, 0, 0, 0, 7, 0, 0, 0, 200, 0, 0, 16, 10,
+];
+
+/// How a page begins that has a value of 4,096 bytes at `g`, and nothing else.
+const LONG_PAGE: &[u8] = &[0, 1, 0, 1, b'g', 1, 0, 0, 16, 0];
 
 /// A Get of `b` reads what stands elsewhere.
 const READS: Step = Step::Does(4, Call::Get(b"b"), 5, Sent::Read(1, 100));
@@ -112,6 +123,24 @@ const CASES: &[Case<Step>] = &[
         ]],
     ),
     (
+        "a page that was read as a value is a page too",
+        &[&[
+            Step::Does(4, Call::Get(b"e"), 5, Sent::Read(1, 200)),
+            Step::Does(20, Call::LongPage(4), 20, Sent::Value(4_106)),
+            Step::Does(4, Call::Get(b"g"), 4, Sent::Value(4_096)),
+            Step::Does(4, Call::Get(b"h"), 4, Sent::NoValue),
+            Step::Does(4, Call::Get(b"e"), 4, Sent::Value(4_106)),
+        ]],
+    ),
+    (
+        "a page is also what is read as a value",
+        &[&[
+            Step::Does(4, Call::Get(b"g"), 5, Sent::Read(1, 200)),
+            Step::Does(20, Call::LongPage(4), 20, Sent::Value(4_096)),
+            Step::Does(4, Call::Get(b"e"), 4, Sent::Value(4_106)),
+        ]],
+    ),
+    (
         "the next node is asked",
         &[&[
             READS,
@@ -140,6 +169,17 @@ fn place() -> Place
     }
 }
 
+/// The place of the value at `e`, which is that of a page too.
+fn place_of_a_page() -> Place
+    ensures { result.length ≡ 4106 }
+{
+    Place {
+        extent: ExtentId(7),
+        offset: 200,
+        length: 4_106,
+    }
+}
+
 /// A table under a lease, the index below it, and the Gets that wait for what is in them.
 #[derive(Drop)]
 struct Getting {
@@ -161,10 +201,11 @@ fn put(alloc: Global, table: &mut MemTable, key: &'static [u8; 1], cell: Cell) -
 
 fn fill(alloc: Global, table: &mut MemTable) -> Result<(), Fail> {
     put(alloc, table, b"a", Cell::Inline(Bytes::from_static(b"x")))?;
-    put(alloc, table, b"b", Cell::Placed(place()))
+    put(alloc, table, b"b", Cell::Placed(place()))?;
+    put(alloc, table, b"e", Cell::Placed(place_of_a_page()))
 }
 
-/// A table with a small value at `a` and a large one at `b`.
+/// A table with a small value at `a` and large ones at `b` and `e`.
 fn filled(alloc: Global) -> Result<MemTable, Fail> {
     let mut table = MemTable::new(alloc);
     let told = fill(alloc, &mut table);
@@ -177,23 +218,28 @@ fn filled(alloc: Global) -> Result<MemTable, Fail> {
     }
 }
 
-pub(crate) fn install(alloc: Global, indexes: &mut InstalledIndexes) -> Result<(), Fail> {
+/// Installs the index of this text, for all keys.
+pub(crate) fn install(
+    alloc: Global,
+    indexes: &mut InstalledIndexes,
+    text: &'static [u8],
+) -> Result<(), Fail> {
     let index = InstalledIndex {
         place: place(),
         keys: KeyRange {
             low: Bytes::from_static(b""),
             high: None,
         },
-        index: decode(alloc, INDEX)?,
+        index: decode(alloc, text)?,
     };
     indexes.install(index)?;
     Ok(())
 }
 
-/// The index of one page.
+/// The index of two pages.
 fn indexed(alloc: Global) -> Result<InstalledIndexes, Fail> {
     let mut indexes = InstalledIndexes::of(Vec::new(alloc));
-    let told = install(alloc, &mut indexes);
+    let told = install(alloc, &mut indexes, TWO_PAGES);
     match told {
         Ok(()) => Ok(indexes),
         Err(fail) => {
@@ -255,27 +301,34 @@ fn brings(
     Ok(Some(tried?))
 }
 
-/// What these bytes bring, as the answer of the read of this number.
+/// What a page brings that stands at this offset, as the answer of the read of this number.
 fn brings_page(
     alloc: Global,
     lookups: &mut Lookups,
     asking: &Asking<'_>,
     count: u32,
-    text: &'static [u8],
+    offset: u32,
+    page: Bytes,
 ) -> Result<Option<Tried>, AllocError>
     requires { asking.now.context.now.count + 1024 < 2 ^ 64 }
 {
-    let page = Bytes::from_static(text);
     let tried = lookups.bytes(
         alloc,
         asking,
         &number(u64::from(count)),
         ExtentId(7),
-        0,
+        offset,
         &page,
     );
     drop(page);
     Ok(Some(tried?))
+}
+
+/// The page that has a value of 4,096 bytes.
+fn long_page(alloc: Global) -> Result<Bytes, AllocError> {
+    let mut text = LONG_PAGE.to_vec(alloc)?;
+    text.resize(4_106, b'y')?;
+    Ok(Bytes::from_vec(text)?)
 }
 
 fn gives_up(
@@ -312,7 +365,12 @@ fn called(
         Call::Get(key) => gets(alloc, &mut getting.lookups, &asking, key),
         Call::Bytes(count) => brings(alloc, &mut getting.lookups, &asking, *count),
         Call::Page(count, text) => {
-            brings_page(alloc, &mut getting.lookups, &asking, *count, text)
+            let page = Bytes::from_static(text);
+            brings_page(alloc, &mut getting.lookups, &asking, *count, 0, page)
+        }
+        Call::LongPage(count) => {
+            let page = long_page(alloc)?;
+            brings_page(alloc, &mut getting.lookups, &asking, *count, 200, page)
         }
         Call::GiveUp => gives_up(alloc, &mut getting.lookups, &asking),
     }

@@ -137,7 +137,7 @@ fn begins(alloc: Global, queue: &mut Queue) -> Result<Option<(usize, u32, usize)
         None => Ok(None),
         Some(plan) => {
             queue.begin(plan.count, plan.size);
-            Ok(Some((plan.count, plan.size, plan.blocks.items.len())))
+            Ok(Some((plan.count, plan.size, plan.blocks.as_slice().len())))
         }
     }
 }

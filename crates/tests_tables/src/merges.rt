@@ -6,6 +6,7 @@ use crate::cases::{Case, Tested, holds};
 use crate::gets::install;
 use crate::jobs::{Answer, Sends, body_of, sends_of};
 use crate::ranges::{got, put_once, serves};
+use crate::records::INDEX;
 use crate::splits::lasts_are_sealed;
 use Answer::{
     Appended, Created, Extended, MergeBegun, MergeDone, Modified, Refused, SealedIs, Trimmed,
@@ -598,7 +599,7 @@ fn side_got(two: &mut Two, alloc: Global, side: MergeSide) -> Result<Option<Refu
 
 fn installs(state: &mut RangeState, alloc: Global, count: usize) -> Result<bool, Fail> {
     for _ in 0..count {
-        install(alloc, &mut state.content.indexes)?;
+        install(alloc, &mut state.content.indexes, INDEX)?;
     }
     Ok(true)
 }

@@ -6,12 +6,14 @@ ghost use Rattle.wire.specs.Blocks.{has_bad_block};
 
 use block_types::{Group, MAX_BLOCK};
 use bytes::Bytes;
-use std::alloc::{AllocError, Global};
+use std::alloc::AllocError;
 use std::marker::Model;
+use std::sync::ArcSlice;
 
-/// Byte strings of any number and size, as an append carries them before they are known to be a group.
+/// Byte strings of any number and size, as an append carries them before they are known to be a group. Its value is the
+/// list of their bytes. Copies, and the group of them, share the list.
 pub struct Blocks {
-    pub items: Vec<Bytes>,
+    items: ArcSlice<Bytes>,
 }
 
 // Written out, so that a crate above that lets one go has no proof of what is in it.
@@ -26,16 +28,52 @@ impl Model for Blocks {
 
     ghost Value = { List (List ℕ) };
 
-    ghost view = { λ blocks. blocks.items.items };
+    ghost use Rattle.std.specs.Arc.{arc_slice_items};
+
+    ghost view = { λ blocks. arc_slice_items blocks.items };
 }
 
 impl Blocks {
-    /// The group of these blocks, which shares their bytes.
-    pub fn group(&self, alloc: Global) -> Result<Group, AllocError>
+    /// The blocks of these buffers, which it keeps and does not copy. An error is out of memory (22).
+    pub fn of(items: Vec<Bytes>) -> Result<Blocks, AllocError>
+        ensures { IfOk result (λ blocks. blocks ≡ items.items) }
+    {
+        Ok(Blocks {
+            items: ArcSlice::from_vec(items)?,
+        })
+    }
+
+    /// The blocks of a group, whose list it shares. An error is out of memory (22).
+    pub fn of_group(group: &Group) -> Result<Blocks, AllocError>
+        ensures { IfOk result (λ blocks. blocks ≡ group.now) }
+    {
+        Ok(Blocks {
+            items: group.share()?,
+        })
+    }
+
+    /// The blocks in order.
+    pub fn as_slice(&self) -> &[Bytes]
+        ensures { result.now ≡ self.now }
+    {
+        self.items.as_slice()
+    }
+
+    /// The same blocks again, which share the list: it costs the same for each append. An error is out of memory (22).
+    pub fn copy(&self) -> Result<Blocks, AllocError>
+        ensures { IfOk result (λ copy. copy ≡ self.now) }
+    {
+        Ok(Blocks {
+            items: self.items.clone()?,
+        })
+    }
+
+    /// The group of these blocks, which shares the list. An error is out of memory (22).
+    pub fn group(&self) -> Result<Group, AllocError>
         requires { IsGroup self.now }
         ensures { IfOk result (λ group. group ≡ self.now) }
     {
-        Group::shared(alloc, &self.items)
+        Group::shared(&self.items)
     }
 
     /// Whether some block has no byte, or more than 65,536.
@@ -43,7 +81,7 @@ impl Blocks {
         ensures value { result ≡ has_bad_block self.now }
         ensures good { result ≡ false → AllByRecursion IsBlock self.now }
     {
-        some_bad(self.items.as_slice())
+        some_bad(self.as_slice())
     }
 }
 

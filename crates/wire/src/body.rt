@@ -6,7 +6,7 @@ use crate::fence::Fence;
 use crate::range_id::RangeId;
 use crate::refusal::Refusal;
 use crate::server_number::ServerNo;
-use crate::streams::{Modifies, StreamLists, StreamName};
+use crate::streams::{Modifies, OpenedStreams, StreamName};
 use crate::transaction::Changes;
 use block_types::{Group, Groups, Nodes};
 use bytes::Bytes;
@@ -164,7 +164,7 @@ pub enum StreamBody {
     },
     Opened {
         request: ReqNo,
-        streams: StreamLists,
+        streams: OpenedStreams,
     },
     Confirm {
         range: RangeId,

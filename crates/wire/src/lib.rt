@@ -8,7 +8,6 @@
 mod actor;
 mod blocks_list;
 mod body;
-mod copying;
 mod extent_id;
 mod fence;
 mod note;
@@ -32,7 +31,7 @@ pub use refusal::Refusal;
 pub use rows::{Row, Rows};
 pub use server_number::ServerNo;
 pub use streams::{
-    Modifies, Modify, Source, Sources, StreamExtent, StreamExtents, StreamKind, StreamList,
-    StreamLists, StreamName,
+    Modifies, Modify, OpenedStreams, Source, Sources, StreamExtent, StreamExtents, StreamKind,
+    StreamList, StreamLists, StreamName,
 };
 pub use transaction::{Change, Changes};

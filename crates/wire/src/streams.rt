@@ -1,9 +1,11 @@
 //! Streams by name, and what the stream manager tells of them.
+ghost use Rattle.std.specs.Prelude.{◌≡◌, IfOk};
 
 use crate::extent_id::ExtentId;
 use crate::fence::Fence;
 use crate::range_id::RangeId;
 use block_types::Nodes;
+use std::alloc::{AllocError, Global};
 use std::marker::Model;
 
 /// What a stream of a range is for (after Calder et al., SOSP 2011, section 5.2).
@@ -84,6 +86,46 @@ impl Drop for StreamLists {
             row_data: _,
             blob_data: _,
         } = self;
+    }
+}
+
+/// The four streams of a range as an answer tells them: behind one pointer, so that the answer is no wider than other
+/// packets. Its value is the lists.
+pub struct OpenedStreams {
+    lists: Box<StreamLists>,
+}
+
+// Written out, so that a crate above that lets one go has no proof of what is in it.
+impl Drop for OpenedStreams {
+    fn drop(self) {
+        let OpenedStreams { lists: _ } = self;
+    }
+}
+
+impl Model for OpenedStreams {
+    ghost use Rattle.wire.specs.declared.streams.StreamLists.{StreamLists};
+
+    ghost Value = { StreamLists };
+
+    ghost view = { λ opened. opened.lists.value };
+}
+
+impl OpenedStreams {
+    /// The streams of these lists. An error is out of memory (22), and the lists are let go then.
+    pub fn of(alloc: Global, lists: StreamLists) -> Result<OpenedStreams, AllocError>
+        ensures { IfOk result (λ opened. opened ≡ lists) }
+    {
+        match Box::new(alloc, lists) {
+            Ok(lists) => Ok(OpenedStreams { lists }),
+            Err(_full) => Err(AllocError),
+        }
+    }
+
+    /// The lists.
+    pub fn lists(&self) -> &StreamLists
+        ensures { result.now ≡ self.now }
+    {
+        &self.lists
     }
 }
 

@@ -1,10 +1,13 @@
 //! Comparisons of texts that are shown in pieces. None of them copies a byte.
 ghost use Rattle.std.specs.Prelude.{◌≡◌, ◌<◌, ◌^◌, length};
 ghost use Rattle.std.specs.Bool.{Decides};
+ghost use Rattle.std.specs.List.{AllByRecursion};
+ghost use Rattle.block_types.specs.Limits.{IsBlock};
 ghost use Rattle.replica.specs.Groups.{joined, text, text_length};
 ghost use Rattle.model_streams.specs.Honest.{Stands, SameWhereBoth};
 
-use block_types::{Block, Group};
+use block_types::Group;
+use bytes::Bytes;
 
 /// Whether the bytes from this one on and the other bytes are the same as far as both go.
 fn is_same_from(start: u64, bytes: &[u8], others: &[u8]) -> bool
@@ -30,8 +33,9 @@ pub fn is_same_where_both(offset: u64, bytes: &[u8], other: u64, others: &[u8]) 
 }
 
 /// The same for bytes and the joined blocks that begin at the other offset.
-pub fn is_same_in_blocks(offset: u32, bytes: &[u8], other: u64, blocks: &[Block]) -> bool
-    requires { length bytes.now < 2 ^ 63 }
+pub fn is_same_in_blocks(offset: u32, bytes: &[u8], other: u64, blocks: &[Bytes]) -> bool
+    requires bytes { length bytes.now < 2 ^ 63 }
+    requires blocks { AllByRecursion IsBlock blocks.now }
     ensures { Decides result (SameWhereBoth offset bytes.now other (joined blocks.now)) }
 {
     let start = u64::from(offset);
@@ -84,14 +88,14 @@ pub fn has_length(groups: &[Group], wanted: u32) -> bool
     rest == 0
 }
 
-fn is_same_block(block: &Block, other: &Block) -> bool
+fn is_same_block(block: &Bytes, other: &Bytes) -> bool
     ensures { Decides result (block.now ≡ other.now) }
 {
     block.as_slice() == other.as_slice()
 }
 
 /// Whether two groups have the same blocks.
-pub fn is_same_group(group: &[Block], other: &[Block]) -> bool
+pub fn is_same_group(group: &[Bytes], other: &[Bytes]) -> bool
     ensures { Decides result (group.now ≡ other.now) }
 {
     group.len() == other.len()

@@ -7,4 +7,4 @@
 
 mod node_actor;
 
-pub use node_actor::NodeActor;
+pub use node_actor::{NodeActor, empty};

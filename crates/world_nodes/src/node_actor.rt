@@ -1,16 +1,15 @@
 //! The node on a disk in memory.
-ghost use Rattle.std.specs.Prelude.{◌≡◌, ℕ, [], None, Some, true, option_map, IfOk, OnOk, OnErr};
+ghost use Rattle.std.specs.Prelude.{◌≡◌, ℕ, [], Some, true, option_map, IfOk, OnOk, OnErr};
 ghost use Rattle.wire.specs.declared.actor.ActorId.TheVariants as actors;
 ghost use Rattle.model_streams.specs.StreamSystem.{StreamSystem, is_present, node_takes, restart as restarted_in, stop as stopped_in};
-ghost use Rattle.world_steps.specs.ActorStep.{IsFew, nothing};
+ghost use Rattle.world_steps.specs.ActorStep.{IsFew, nothing, stream_step};
 ghost use Rattle.world_nodes.specs.Seen.{NodeMirrors, NodeSimulates, NodeSteps, if_running, new_node, seen_of};
 
 use disk::{DiskFault, MemDisk, RecordFile};
 use enode::{Node, NodeFault};
 use std::alloc::{AllocError, Global};
 use std::marker::Model;
-use wire::Packet;
-use world_steps::ActorStep;
+use wire::{Packet, Step};
 
 /// An extent node, on a disk in memory.
 pub struct NodeActor {
@@ -32,6 +31,14 @@ impl Model for NodeActor {
     ghost view = { λ actor. seen_of actor.node };
 }
 
+/// Empties a step that is kept, and leaves it its room.
+pub fn empty(step: &mut Step)
+    ensures { step.new ≡ record { packets = []; notes = [] } }
+{
+    step.packets.items.clear();
+    step.notes.items.clear();
+}
+
 /// A node on a new disk.
 fn on_new_disk(alloc: Global, number: u8) -> Result<Node<MemDisk>, AllocError>
     ensures { IfOk result (λ node. seen_of node ≡ new_node number) }
@@ -48,19 +55,27 @@ fn on_new_disk(alloc: Global, number: u8) -> Result<Node<MemDisk>, AllocError>
     }
 }
 
-/// Gives a packet to a node. One that stops in the step sends nothing.
-fn give(node: &mut Node<MemDisk>, alloc: Global, packet: &Packet) -> Result<ActorStep, AllocError>
-    ensures ok { IfOk result (λ step. NodeSimulates (seen_of node.old) (seen_of node.new) (λ w n. node_takes w n packet.now) step) }
-    ensures plain { IfOk result (λ step. (step.tables ≡ []) × (step.refusal ≡ None)) }
+/// Gives a packet to a node, which fills a step. One that stops in it sends nothing.
+fn give(
+    node: &mut Node<MemDisk>,
+    alloc: Global,
+    packet: &Packet,
+    step: &mut Step,
+) -> Result<(), AllocError>
+    requires { step.old ≡ record { packets = []; notes = [] } }
+    ensures ok { OnOk result (NodeSimulates (seen_of node.old) (seen_of node.new) (λ w n. node_takes w n packet.now) (stream_step step.new)) }
     ensures err { OnErr result (seen_of node.new ≡ seen_of node.old) }
-    ensures few { IfOk result IsFew }
+    ensures few { OnOk result (IsFew (stream_step step.new)) }
 {
     if node.is_stopped() {
-        return Ok(ActorStep::silent(alloc));
+        return Ok(());
     }
-    match node.handle(alloc, packet) {
-        Ok(step) => Ok(ActorStep::of_streams(alloc, step)),
-        Err(NodeFault::Failed) => Ok(ActorStep::silent(alloc)),
+    match node.handle_into(alloc, packet, step) {
+        Ok(()) => Ok(()),
+        Err(NodeFault::Failed) => {
+            empty(step);
+            Ok(())
+        }
         Err(NodeFault::Damaged) => unreachable!(),
         Err(NodeFault::Memory) => Err(AllocError),
     }
@@ -120,14 +135,20 @@ impl NodeActor {
         }
     }
 
-    /// Gives it a packet, and answers what it sends and shows. An error is out of memory (22), and nothing has changed.
-    pub fn give(&mut self, alloc: Global, packet: &Packet) -> Result<ActorStep, AllocError>
-        ensures ok { IfOk result (λ step. NodeSimulates self.old self.new (λ w n. node_takes w n packet.now) step) }
-        ensures plain { IfOk result (λ step. (step.tables ≡ []) × (step.refusal ≡ None)) }
+    /// Gives it a packet, and fills a step, which is empty before, with what it sends and shows. An error is out of memory (22),
+    /// and nothing has changed but the step, which its owner empties.
+    pub fn give(
+        &mut self,
+        alloc: Global,
+        packet: &Packet,
+        step: &mut Step,
+    ) -> Result<(), AllocError>
+        requires { step.old ≡ record { packets = []; notes = [] } }
+        ensures ok { OnOk result (NodeSimulates self.old self.new (λ w n. node_takes w n packet.now) (stream_step step.new)) }
         ensures err { OnErr result (self.new ≡ self.old) }
-        ensures few { IfOk result IsFew }
+        ensures few { OnOk result (IsFew (stream_step step.new)) }
     {
-        give(&mut self.node, alloc, packet)
+        give(&mut self.node, alloc, packet, step)
     }
 
     /// Stops it at once, or in one of its next device calls. Nothing comes of it where it has stopped.

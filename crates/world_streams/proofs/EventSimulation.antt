@@ -1,5 +1,5 @@
 -- What each event does to the stream layer, beside what it does to the model's.
-use Rattle.std.proofs.Common.{◌≡◌, ◌≤◌, ◌<◌, ℕ, Bool, true, false, List, [], ◌∷◌, ◌++◌, Option, Some, None, Result, Ok, Err, IfOk, OnOk, refl, sym, ap, ◌∙◌, subst, take, ◌+◌, slice_get, slice_index_or, length, zero, suc, if◌then◌else◌, arith, append-nil}
+use Rattle.std.proofs.Common.{◌≡◌, ◌≤◌, ◌<◌, ℕ, Bool, true, false, List, [], ◌∷◌, ◌++◌, Option, Some, None, Result, Ok, Err, OnOk, refl, sym, ap, ◌∙◌, subst, take, ◌+◌, slice_get, slice_index_or, length, zero, suc, if◌then◌else◌, arith, append-nil}
 use Rattle.std.proofs.Math.Seq.{take-suc}
 use Rattle.std.specs.declared.alloc.AllocError.{AllocError}
 use Rattle.std.proofs.lemmas.Option.{same_Some}
@@ -8,6 +8,7 @@ use Rattle.wire.specs.declared.actor.ActorId.TheVariants.{Node, Manager, Map, Se
 use Rattle.wire.specs.declared.body.Body.{Body}
 use Rattle.wire.specs.declared.note.Note.{Note}
 use Rattle.wire.specs.declared.packet.Packet.{Packet}
+use Rattle.wire.specs.declared.packet.Step.{Step}
 use Rattle.model_streams.specs.declared.event.Event.{Event}
 use Rattle.model_streams.specs.declared.event.Event.TheVariants.{Submit, Deliver, Decide}
 use Rattle.model_streams.specs.Node.{Replica}
@@ -17,7 +18,7 @@ use Rattle.model_streams.specs.StreamSystem.{StreamSystem, ActorCell, happens, m
 use Rattle.model_streams.proofs.Tests.{if_elim}
 use Rattle.block_types.specs.Limits.{IsTarget}
 use Rattle.world_stops.specs.Plan.{plan_of}
-use Rattle.world_steps.specs.ActorStep.{ActorStep, nothing}
+use Rattle.world_steps.specs.ActorStep.{ActorStep, nothing, stream_step}
 use Rattle.world_nodes.specs.Seen.{NodeSeen}
 use Rattle.world_manager.specs.Seen.{ManagerSeen, ManagerMirrors, ManagerSimulates, ManagerSteps, RecordsMakeCatalog, CatalogMirrors, new_manager}
 use Rattle.world_manager.proofs.ManagerSimulation.{new_mirrors}
@@ -135,6 +136,19 @@ pub moved_manager : (xs : List NodeSeen) (d y : ManagerSeen) (p : Packet) (s : A
     (w : StreamSystem) → NodesMirror xs w → ManagerMirrors d w → ActorsStep xs y w (delivered w p p.to) s
 moved_manager xs d y p s to h w m k = subst (λ a. ActorsStep xs y w (delivered w p a) s) (sym to) (moved_by_manager xs y w (manager_takes w p) s (h w k) m)
 
+-- what it sends and shows may fill a step
+pub manager_fills : (x y : ManagerSeen) (goes : StreamSystem → StreamSystem) (s : ActorStep) (t : Step) → t.packets ≡ s.packets → t.notes ≡ s.notes →
+    ManagerSimulates x y goes s → ManagerSimulates x y goes (stream_step t)
+manager_fills x y goes s t sent shown h w m =
+    let g = h w m in record {
+      post = g.post ∙ ap (λ (l : List Packet). w.post ++ l) (sym sent);
+      notes = g.notes ∙ ap (λ (l : List Note). w.notes ++ l) (sym shown);
+      manager = g.manager;
+      replica = g.replica;
+      cell = g.cell;
+      nodes = g.nodes;
+    }
+
 -- a packet of somebody else
 pub moved_nowhere : (xs : List NodeSeen) (d : ManagerSeen) (p : Packet) → ((w : StreamSystem) → delivered w p p.to ≡ w) →
     (w : StreamSystem) → NodesMirror xs w → ManagerMirrors d w → ActorsStep xs d w (delivered w p p.to) nothing
@@ -220,8 +234,8 @@ ran_next r events i event w is l m =
 
 -- ---- in the words of the answers
 
-pub node_moved : (xs ys : List NodeSeen) (d : ManagerSeen) (n : ℕ) (p : Packet) (r : Result ActorStep AllocError) → p.to ≡ Node n →
-    IfOk r (λ s. (w : StreamSystem) → NodesMirror xs w → NodesStep ys w (node_takes w n p) s) →
-    IfOk r (λ s. (w : StreamSystem) → NodesMirror xs w → ManagerMirrors d w → ActorsStep ys d w (delivered w p p.to) s)
-node_moved xs ys d n p (Ok s) to h = moved_node xs ys d n p s to h
-node_moved xs ys d n p (Err x) to h = tt
+pub node_moved : (xs ys : List NodeSeen) (d : ManagerSeen) (n : ℕ) (p : Packet) (r : Result Unit AllocError) (s : ActorStep) → p.to ≡ Node n →
+    OnOk r ((w : StreamSystem) → NodesMirror xs w → NodesStep ys w (node_takes w n p) s) →
+    OnOk r ((w : StreamSystem) → NodesMirror xs w → ManagerMirrors d w → ActorsStep ys d w (delivered w p p.to) s)
+node_moved xs ys d n p (Ok u) s to h = moved_node xs ys d n p s to h
+node_moved xs ys d n p (Err x) s to h = tt

@@ -1,8 +1,8 @@
 //! The extent nodes of a run.
-ghost use Rattle.std.specs.Prelude.{◌≡◌, ◌<◌, suc, length, option_map, IfOk, OnOk, OnErr};
+ghost use Rattle.std.specs.Prelude.{◌≡◌, ◌<◌, [], suc, length, option_map, IfOk, OnOk, OnErr};
 ghost use Rattle.wire.specs.declared.actor.ActorId.TheVariants as actors;
 ghost use Rattle.model_streams.specs.StreamSystem.{StreamSystem, node_takes, restart, stop};
-ghost use Rattle.world_steps.specs.ActorStep.{IsFew, nothing};
+ghost use Rattle.world_steps.specs.ActorStep.{IsFew, nothing, stream_step};
 ghost use Rattle.world_nodes.specs.Seen.{seen_of};
 ghost use Rattle.world_streams.specs.Nodes.{NodesMirror, NodesStep, first_nodes, running_at};
 
@@ -10,9 +10,8 @@ use disk::MemDisk;
 use enode::Node;
 use std::alloc::{AllocError, Global};
 use std::marker::Model;
-use wire::Packet;
+use wire::{Packet, Step};
 use world_nodes::NodeActor;
-use world_steps::ActorStep;
 
 /// The nodes, in order from node 1.
 #[derive(Drop)]
@@ -29,19 +28,21 @@ impl Model for NodeList {
     ghost view = { λ nodes. nodes.items.items };
 }
 
-/// Gives a packet to one of the nodes.
+/// Gives a packet to one of the nodes, which fills a step.
 fn give_at(
     nodes: &mut Vec<NodeActor>,
     at: usize,
     alloc: Global,
     packet: &Packet,
-) -> Result<ActorStep, AllocError>
-    requires { at < length nodes.old.items }
-    ensures ok { IfOk result (λ step. (w : StreamSystem) → NodesMirror nodes.old.items w → NodesStep nodes.new.items w (node_takes w (suc at) packet.now) step) }
+    step: &mut Step,
+) -> Result<(), AllocError>
+    requires at { at < length nodes.old.items }
+    requires empty { step.old ≡ record { packets = []; notes = [] } }
+    ensures ok { OnOk result ((w : StreamSystem) → NodesMirror nodes.old.items w → NodesStep nodes.new.items w (node_takes w (suc at) packet.now) (stream_step step.new)) }
     ensures err { OnErr result (nodes.new.items ≡ nodes.old.items) }
-    ensures few { IfOk result IsFew }
+    ensures few { OnOk result (IsFew (stream_step step.new)) }
 {
-    nodes[at].give(alloc, packet)
+    nodes[at].give(alloc, packet, step)
 }
 
 fn stop_at(nodes: &mut Vec<NodeActor>, at: usize, call: u64, keep: bool)
@@ -71,25 +72,27 @@ impl NodeList {
         Ok(NodeList { items })
     }
 
-    /// Gives a packet to the node of a number. Nothing comes of one to an absent node.
+    /// Gives a packet to the node of a number, which fills a step. Nothing comes of one to an absent node.
     pub(crate) fn give(
         &mut self,
         alloc: Global,
         number: u8,
         packet: &Packet,
-    ) -> Result<ActorStep, AllocError>
-        ensures ok { IfOk result (λ step. (w : StreamSystem) → NodesMirror self.old w → NodesStep self.new w (node_takes w number packet.now) step) }
+        step: &mut Step,
+    ) -> Result<(), AllocError>
+        requires { step.old ≡ record { packets = []; notes = [] } }
+        ensures ok { OnOk result ((w : StreamSystem) → NodesMirror self.old w → NodesStep self.new w (node_takes w number packet.now) (stream_step step.new)) }
         ensures err { OnErr result (self.new ≡ self.old) }
-        ensures few { IfOk result IsFew }
+        ensures few { OnOk result (IsFew (stream_step step.new)) }
     {
         if number == 0 {
-            return Ok(ActorStep::silent(alloc));
+            return Ok(());
         }
         let at = usize::from(number) - 1;
         if at >= self.items.len() {
-            return Ok(ActorStep::silent(alloc));
+            return Ok(());
         }
-        give_at(&mut self.items, at, alloc, packet)
+        give_at(&mut self.items, at, alloc, packet, step)
     }
 
     /// Stops the node of a number, at once or in one of its next device calls. Nothing comes of it where there is none.

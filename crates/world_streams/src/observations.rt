@@ -2,7 +2,7 @@
 ghost use Rattle.std.specs.Prelude.{◌≡◌, ◌++◌, ◌+◌, ◌≤◌, [], ◌∷◌, IfOk, OnOk, vec_len, vec_capacity};
 ghost use Rattle.model_partition.specs.Servers.{rows_of, table_of_view};
 
-use crate::post::{MOST, make_room, move_in};
+use crate::post::{MOST, make_room, move_in, move_over};
 use model_partition::TableView;
 use std::alloc::{AllocError, Global};
 use std::marker::Model;
@@ -70,6 +70,15 @@ impl Observations {
         ensures { self.new.items ≡ self.old.items ++ more.items }
     {
         move_in(&mut self.notes, more);
+    }
+
+    /// Puts all that is in a list at the end, into room that is there. The list is empty then, and keeps its room.
+    pub(crate) fn move_over(&mut self, more: &mut Vec<Note>)
+        requires { vec_len self.old + vec_len more.old ≤ vec_capacity self.old }
+        ensures moved { self.new.items ≡ self.old.items ++ more.old.items }
+        ensures emptied { more.new.items ≡ [] }
+    {
+        move_over(&mut self.notes, more);
     }
 
     pub(crate) fn as_slice(&self) -> &[Note]

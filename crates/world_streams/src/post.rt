@@ -1,5 +1,5 @@
 //! Lists that grow by what a step gives, in room that was made before the step.
-ghost use Rattle.std.specs.Prelude.{◌≡◌, ◌++◌, ◌+◌, ◌≤◌, OnOk, vec_len, vec_capacity};
+ghost use Rattle.std.specs.Prelude.{◌≡◌, [], ◌++◌, ◌+◌, ◌≤◌, OnOk, vec_len, vec_capacity};
 
 use std::alloc::AllocError;
 
@@ -22,4 +22,14 @@ pub(crate) fn move_in<T: Drop>(list: &mut Vec<T>, more: Vec<T>)
     for item in more {
         list.push_reserved(item);
     }
+}
+
+/// Moves all that is in a list to the end of another, into room that is there. The list is empty then, and keeps its room.
+pub(crate) fn move_over<T>(list: &mut Vec<T>, more: &mut Vec<T>)
+    requires { vec_len list.old + vec_len more.old ≤ vec_capacity list.old }
+    ensures moved { list.new.items ≡ list.old.items ++ more.old.items }
+    ensures emptied { more.new.items ≡ [] }
+{
+    let moved: Result<(), AllocError> = list.append(more);
+    moved.unwrap();
 }

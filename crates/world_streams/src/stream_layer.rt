@@ -1,16 +1,16 @@
 //! The stream layer: real nodes and the real manager, the packets sent, and what was observed.
-ghost use Rattle.std.specs.Prelude.{◌≡◌, ◌++◌, ◌<◌, [], ◌∷◌, None, Some, IfOk, OnOk, OnErr, length, option_map, slice_get};
+ghost use Rattle.std.specs.Prelude.{◌≡◌, ◌++◌, ◌+◌, ◌<◌, ◌≤◌, [], ◌∷◌, None, Some, IfOk, OnOk, OnErr, length, option_map, slice_get, vec_capacity, vec_len};
 ghost use Rattle.wire.specs.declared.actor.ActorId.TheVariants as actors;
 ghost use Rattle.wire.specs.declared.packet.Packet.{Packet};
 ghost use Rattle.model_streams.specs.Maps.{entry_at};
-ghost use Rattle.model_streams.specs.StreamSystem.{StreamSystem, happens, moved, delivered, restart, start};
+ghost use Rattle.model_streams.specs.StreamSystem.{StreamSystem, happens, manager_takes, moved, delivered, restart, start};
 ghost use Rattle.model_streams.specs.StreamSystem.Move.{Asks};
 ghost use Rattle.model_streams.specs.declared.event.Event.TheVariants as events;
 ghost use Rattle.model_streams.specs.Outcome.{packet};
 ghost use Rattle.model_partition.specs.Servers.{checkpoint_refusal_at, give_up_refusal, merge_refusal_at, server_checkpoints, server_gives_up, server_merges, server_splits, server_takes, split_refusal_at};
-ghost use Rattle.world_steps.specs.ActorStep.{IsFew, nothing};
+ghost use Rattle.world_steps.specs.ActorStep.{IsFew, nothing, stream_step};
 ghost use Rattle.world_nodes.specs.Seen.{seen_of};
-ghost use Rattle.world_manager.specs.Seen.{ManagerMirrors, decision_refusal};
+ghost use Rattle.world_manager.specs.Seen.{ManagerMirrors, ManagerSimulates, decision_refusal};
 ghost use Rattle.world_streams.specs.Nodes.{NodesMirror, running_at};
 ghost use Rattle.world_streams.specs.StreamLayer.{StreamLayerMirrors, ActorsStep, refusal_of};
 ghost use Rattle.world_streams.specs.ServersStep.{AfterMap, AfterServers};
@@ -21,7 +21,7 @@ use crate::calls::is_call;
 use crate::fault::WorldFault;
 use crate::nodes::NodeList;
 use crate::observations::Observations;
-use crate::post::{make_room, move_in};
+use crate::post::{make_room, move_in, move_over};
 use crate::setup::Setup;
 use crate::showing::{Given, give, show};
 use crate::submitting::{is_request, request};
@@ -32,19 +32,22 @@ use enode::Node;
 use model_streams::Event;
 use std::alloc::Global;
 use std::marker::Model;
-use wire::{ActorId, Body, ExtentId, Note, Packet, RangeId, Refusal, Rows, ServerNo};
+use wire::{ActorId, Body, ExtentId, Note, Packet, RangeId, Refusal, Rows, ServerNo, Step};
 use world_manager::ManagerActor;
 use world_map::MapActor;
+use world_nodes::empty;
 use world_servers::Servers;
 use world_steps::ActorStep;
 
 /// Real extent nodes and the stream manager on disks in memory, all packets that were sent, numbered from 0, and all
-/// observations. The packets stay, since each may be delivered any number of times.
+/// observations. The packets stay, since each may be delivered any number of times. The lists that an actor's step fills are kept,
+/// and empty between steps.
 pub struct StreamLayer {
     nodes: NodeList,
     manager: ManagerActor,
     post: Vec<Packet>,
     notes: Observations,
+    step: Step,
 }
 
 // Written out, so that a crate above that lets one go has no proof of what is in it.
@@ -55,37 +58,73 @@ impl Drop for StreamLayer {
             manager: _,
             post: _,
             notes: _,
+            step: _,
         } = self;
     }
 }
 
 impl Model for StreamLayer {
+    ghost use Rattle.std.specs.Prelude.{◌≡◌, []};
     ghost use Rattle.world_streams.specs.StreamLayer.{StreamLayerState};
 
     ghost Value = { StreamLayerState };
 
     ghost view = { λ run. record { nodes = run.nodes; manager = run.manager; post = run.post.items; notes = run.notes.items } };
+
+    ghost invariant = { λ run. run.step ≡ record { packets = []; notes = [] } };
 }
 
-/// What the addressee does with a packet. Nothing comes of one to a stopped or absent actor, or to a user.
+/// Gives a packet to the manager, and fills a step.
+fn give_manager(
+    manager: &mut ManagerActor,
+    alloc: Global,
+    packet: &Packet,
+    step: &mut Step,
+) -> Result<(), WorldFault>
+    ensures ok { OnOk result (ManagerSimulates manager.old manager.new (λ w. manager_takes w packet.now) (stream_step step.new)) }
+    ensures err { OnErr result (manager.new ≡ manager.old) }
+    ensures few { OnOk result (IsFew (stream_step step.new)) }
+{
+    let given = manager.give(alloc, packet)?;
+    let ActorStep { packets, notes, .. } = given;
+    *step = Step { packets, notes };
+    Ok(())
+}
+
+/// What the addressee does with a packet, which fills a step. Nothing comes of one to a stopped or absent actor, or to a user.
 fn take(
     nodes: &mut NodeList,
     manager: &mut ManagerActor,
     alloc: Global,
     packet: &Packet,
-) -> Result<ActorStep, WorldFault>
-    ensures ok { IfOk result (λ step. (w : StreamSystem) → NodesMirror nodes.old w → ManagerMirrors manager.old w → ActorsStep nodes.new manager.new w (delivered w packet.now packet.now.to) step) }
+    step: &mut Step,
+) -> Result<(), WorldFault>
+    requires { step.old ≡ record { packets = []; notes = [] } }
+    ensures ok { OnOk result ((w : StreamSystem) → NodesMirror nodes.old w → ManagerMirrors manager.old w → ActorsStep nodes.new manager.new w (delivered w packet.now packet.now.to) (stream_step step.new)) }
     ensures nodes { OnErr result (nodes.new ≡ nodes.old) }
     ensures manager { OnErr result (manager.new ≡ manager.old) }
-    ensures few { IfOk result IsFew }
+    ensures few { OnOk result (IsFew (stream_step step.new)) }
 {
     match packet.to {
-        ActorId::Node(number) => nodes.give(alloc, number, packet),
-        ActorId::Manager => manager.give(alloc, packet),
-        ActorId::Map => Ok(ActorStep::silent(alloc)),
-        ActorId::Server(_) => Ok(ActorStep::silent(alloc)),
-        ActorId::User(_) => Ok(ActorStep::silent(alloc)),
+        ActorId::Node(number) => nodes.give(alloc, number, packet, step),
+        ActorId::Manager => give_manager(manager, alloc, packet, step),
+        ActorId::Map => Ok(()),
+        ActorId::Server(_) => Ok(()),
+        ActorId::User(_) => Ok(()),
     }
+}
+
+/// Moves what a step sends and shows to the end of what was sent and shown before, into room that is there. The step is empty
+/// then, and keeps its room.
+fn move_step(post: &mut Vec<Packet>, notes: &mut Observations, step: &mut Step)
+    requires packets { vec_len post.old + length step.old.packets ≤ vec_capacity post.old }
+    requires notes { vec_len notes.old + length step.old.notes ≤ vec_capacity notes.old }
+    ensures sent { post.new.items ≡ post.old.items ++ step.old.packets }
+    ensures shown { notes.new.items ≡ notes.old.items ++ step.old.notes }
+    ensures emptied { step.new ≡ record { packets = []; notes = [] } }
+{
+    move_over(post, &mut step.packets.items);
+    notes.move_over(&mut step.notes.items);
 }
 
 impl StreamLayer {
@@ -99,6 +138,7 @@ impl StreamLayer {
             manager: ManagerActor::start(alloc, setup.nodes, setup.target)?,
             post: Vec::new(alloc),
             notes: Observations::new(alloc),
+            step: Step::silent(alloc),
         })
     }
 
@@ -179,16 +219,22 @@ impl StreamLayer {
         }
         make_room(&mut self.post)?;
         self.notes.make_room()?;
-        let step = take(
+        match take(
             &mut self.nodes,
             &mut self.manager,
             alloc,
             &self.post[number],
-        )?;
-        let ActorStep { packets, notes, .. } = step;
-        move_in(&mut self.post, packets.into_vec());
-        self.notes.move_in(notes.into_vec());
-        Ok(None)
+            &mut self.step,
+        ) {
+            Ok(()) => {
+                move_step(&mut self.post, &mut self.notes, &mut self.step);
+                Ok(None)
+            }
+            Err(fault) => {
+                empty(&mut self.step);
+                Err(fault)
+            }
+        }
     }
 
     /// A node or the manager stops, at once or in a device call.

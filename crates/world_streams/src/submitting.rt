@@ -51,7 +51,7 @@ pub(crate) fn is_request(body: &Body) -> bool
     }
 }
 
-fn append(alloc: Global, body: &AppendBody) -> Result<Option<Body>, AllocError>
+fn append(body: &AppendBody) -> Result<Option<Body>, AllocError>
     ensures { IfOk result (λ copy. copy ≡ (if is_append body.now then Some (bodies.Append body.now) else None)) }
 {
     match body {
@@ -61,7 +61,7 @@ fn append(alloc: Global, body: &AppendBody) -> Result<Option<Body>, AllocError>
             blocks,
             request,
         } => {
-            let blocks = blocks.copy(alloc)?;
+            let blocks = blocks.copy()?;
             Ok(Some(Body::Append(AppendBody::Append {
                 extent: *extent,
                 generation: *generation,
@@ -197,7 +197,7 @@ pub(crate) fn request(alloc: Global, body: &Body) -> Result<Option<Body>, AllocE
     ensures { IfOk result (λ copy. copy ≡ (if is_request body.now then Some body.now else None)) }
 {
     match body {
-        Body::Append(body) => append(alloc, body),
+        Body::Append(body) => append(body),
         Body::Check(_) => Ok(None),
         Body::Seal(body) => Ok(seal(body)),
         Body::Read(body) => Ok(read(body)),

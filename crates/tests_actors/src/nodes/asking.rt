@@ -56,7 +56,7 @@ fn append(alloc: Global, extent: u64, generation: u64, words: &[&str]) -> Result
     Ok(Body::Append(AppendBody::Append {
         extent: ExtentId(extent),
         generation: Fence(generation),
-        blocks: Blocks { items: blocks },
+        blocks: Blocks::of(blocks)?,
         request: user_request(0),
     }))
 }

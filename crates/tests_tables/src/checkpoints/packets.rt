@@ -40,9 +40,10 @@ fn is_append(body: &AppendBody, comes: &Comes) -> bool {
     match body {
         AppendBody::Append { extent, blocks, .. } => match comes {
             Comes::Appends(texts) => {
-                *extent == ExtentId(7) && are_blocks(blocks.items.as_slice(), *texts)
+                *extent == ExtentId(7) && are_blocks(blocks.as_slice(), *texts)
             }
-            Comes::AppendsMany(count) => *extent == ExtentId(7) && blocks.items.len() == *count,
+            Comes::AppendsMany(count) => *extent == ExtentId(7)
+                && blocks.as_slice().len() == *count,
             _ => false,
         },
         _ => false,

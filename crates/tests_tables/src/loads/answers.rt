@@ -6,8 +6,8 @@ use bytes::Bytes;
 use std::alloc::Global;
 use std::test::Fail;
 use wire::{
-    AppendBody, Body, CheckBody, ExtentId, ReadBody, Refusal, ReqNo, StreamBody, StreamExtents,
-    StreamList, StreamLists,
+    AppendBody, Body, CheckBody, ExtentId, OpenedStreams, ReadBody, Refusal, ReqNo, StreamBody,
+    StreamExtents, StreamList, StreamLists,
 };
 
 /// An answer, but for the number that it bears.
@@ -55,16 +55,17 @@ fn opened(
     metadata: StreamList,
     log: StreamList,
     row_data: StreamList,
-) -> Body {
-    Body::Stream(StreamBody::Opened {
+) -> Result<Body, Fail> {
+    let lists = StreamLists {
+        metadata,
+        log,
+        row_data,
+        blob_data: no_extent(alloc),
+    };
+    Ok(Body::Stream(StreamBody::Opened {
         request,
-        streams: StreamLists {
-            metadata,
-            log,
-            row_data,
-            blob_data: no_extent(alloc),
-        },
-    })
+        streams: OpenedStreams::of(alloc, lists)?,
+    }))
 }
 
 /// The streams of a range whose metadata has one extent of this length, and whose log has none.
@@ -75,13 +76,13 @@ fn metadata_opened(
     row_data: StreamList,
 ) -> Result<Body, Fail> {
     let metadata = one_extent(alloc, Some(length))?;
-    Ok(opened(alloc, request, metadata, no_extent(alloc), row_data))
+    opened(alloc, request, metadata, no_extent(alloc), row_data)
 }
 
 /// The streams of a range whose log has one extent, and whose metadata has none.
 fn log_opened(alloc: Global, request: ReqNo, length: Option<u32>) -> Result<Body, Fail> {
     let log = one_extent(alloc, length)?;
-    Ok(opened(alloc, request, no_extent(alloc), log, no_extent(alloc)))
+    opened(alloc, request, no_extent(alloc), log, no_extent(alloc))
 }
 
 fn read(alloc: Global, request: ReqNo, text: &[u8]) -> Result<Body, Fail> {
@@ -98,13 +99,13 @@ fn read(alloc: Global, request: ReqNo, text: &[u8]) -> Result<Body, Fail> {
 pub(crate) fn body_of(alloc: Global, asked: u32, answer: &Answer) -> Result<Body, Fail> {
     let request = number(u64::from(asked));
     match answer {
-        Answer::Empty => Ok(opened(
+        Answer::Empty => opened(
             alloc,
             request,
             no_extent(alloc),
             no_extent(alloc),
             no_extent(alloc),
-        )),
+        ),
         Answer::Metadata(length) => metadata_opened(alloc, request, *length, no_extent(alloc)),
         Answer::MetadataAndRows(length) => {
             metadata_opened(alloc, request, *length, one_extent(alloc, None)?)

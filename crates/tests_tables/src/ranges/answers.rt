@@ -7,8 +7,8 @@ use block_types::{Group, Groups};
 use std::alloc::Global;
 use std::test::Fail;
 use wire::{
-    AppendBody, Body, ExtentId, ReadBody, ReqNo, StreamBody, StreamExtent, StreamExtents,
-    StreamList, StreamLists,
+    AppendBody, Body, ExtentId, OpenedStreams, ReadBody, ReqNo, StreamBody, StreamExtent,
+    StreamExtents, StreamList, StreamLists,
 };
 
 /// An answer, but for the number that it bears.
@@ -48,18 +48,24 @@ fn one_extent(alloc: Global, length: u32) -> Result<StreamList, Fail> {
     })
 }
 
-fn opened(alloc: Global, request: ReqNo, metadata: StreamList, log: StreamList) -> Body
-    ensures { answered_number result ≡ Some request }
+fn opened(
+    alloc: Global,
+    request: ReqNo,
+    metadata: StreamList,
+    log: StreamList,
+) -> Result<Body, Fail>
+    ensures { IfOk result (λ body. answered_number body ≡ Some request) }
 {
-    Body::Stream(StreamBody::Opened {
+    let lists = StreamLists {
+        metadata,
+        log,
+        row_data: no_extent(alloc),
+        blob_data: no_extent(alloc),
+    };
+    Ok(Body::Stream(StreamBody::Opened {
         request,
-        streams: StreamLists {
-            metadata,
-            log,
-            row_data: no_extent(alloc),
-            blob_data: no_extent(alloc),
-        },
-    })
+        streams: OpenedStreams::of(alloc, lists)?,
+    }))
 }
 
 fn groups(alloc: Global, text: &[u8]) -> Result<Groups, Fail> {
@@ -110,14 +116,14 @@ pub(crate) fn body_of(alloc: Global, request: ReqNo, answer: &Answer) -> Result<
     ensures { IfOk result (λ body. answered_number body ≡ Some request) }
 {
     match answer {
-        Answer::Empty => Ok(opened(alloc, request, no_extent(alloc), no_extent(alloc))),
+        Answer::Empty => opened(alloc, request, no_extent(alloc), no_extent(alloc)),
         Answer::Metadata(length) => {
             let metadata = one_extent(alloc, *length)?;
-            Ok(opened(alloc, request, metadata, no_extent(alloc)))
+            opened(alloc, request, metadata, no_extent(alloc))
         }
         Answer::Log(length) => {
             let log = one_extent(alloc, *length)?;
-            Ok(opened(alloc, request, no_extent(alloc), log))
+            opened(alloc, request, no_extent(alloc), log)
         }
         Answer::Group(text) => Ok(group(request, groups(alloc, text)?)),
         Answer::Confirmed => Ok(confirmed(request)),

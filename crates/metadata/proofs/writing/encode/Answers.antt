@@ -10,4 +10,5 @@ of-requires c =
     let front = ap length c.in_ok-put_u64.ensures.ok in
     let whole = ap length c.in_ok-put_item.ensures in
     let kept = ap length c.in_ok-from_vec.ensures.ok in
-    omega (arith, empty, front, whole, kept, length-append c.new-bytes.result.items (number 8 c.args.written.now.number), length-number 8 c.args.written.now.number, length-append c.put_u64.new.out.items (item c.args.written.now.item), c.requires.2, length-append (number 8 c.args.written.now.number) (item c.args.written.now.item))
+    rw c.in_ok-push.ensures.items (rw c.new-blocks.ensures.items
+    (omega arith, omega arith, (omega (arith, empty, front, whole, kept, length-append c.new-bytes.result.items (number 8 c.args.written.now.number), length-number 8 c.args.written.now.number, length-append c.put_u64.new.out.items (item c.args.written.now.item), c.requires.2, length-append (number 8 c.args.written.now.number) (item c.args.written.now.item)), tt)))

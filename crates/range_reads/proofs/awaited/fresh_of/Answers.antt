@@ -1,5 +1,5 @@
 use Rattle.std.proofs.Common.{rules}
 use Rattle.range_reads.proofs.awaited.fresh_of.Goals as goal
 
-pub returns-in_ok-bytes-in-Some-clause-other : goal.returns-in_ok-bytes-in-Some-clause-other
-returns-in_ok-bytes-in-Some-clause-other c = search rules
+pub returns-then-place-len-clause-other : goal.returns-then-place-len-clause-other
+returns-then-place-len-clause-other c = search rules

@@ -7,4 +7,4 @@ use Rattle.world_checker.proofs.texts.is_same_block.Goals as goal
 pub returns : goal.returns
 returns c =
     let same : Decides c.eq.result (c.as_slice.result.now ≡ c.as_slice-2.result.now) = slice_eq-Decides Decides-eqb _ _ _ c.eq.ensures in
-    rw (c.as_slice.ensures.value, c.as_slice-2.ensures.value) at same
+    rw (c.as_slice.ensures, c.as_slice-2.ensures) at same

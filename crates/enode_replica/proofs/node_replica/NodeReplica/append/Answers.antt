@@ -1,5 +1,4 @@
-use Rattle.std.proofs.Common.{refl, ◌∙◌, ap, sym, subst}
-use Rattle.block_types.specs.Limits.{IsGroup}
+use Rattle.std.proofs.Common.{refl, ◌∙◌, ap}
 use Rattle.replica.specs.Replay.{is_open}
 use Rattle.replica.specs.State.{content_of}
 use Rattle.model_streams.specs.Node.{Replica}
@@ -10,7 +9,7 @@ use Rattle.enode_replica.proofs.node_replica.NodeReplica.append.Goals as goal
 pub invariant_of-queue-2 : goal.invariant_of-queue-2
 invariant_of-queue-2 g c = rw (c.push_back_reserved-2.ensures.items, c.push_back_reserved.ensures.items, c.reserve-2.ensures.items, c.reserve.ensures.items)
     (queue_push (content_of c.self.inside.replica) (content_of c.add_group.new.replica) _ c.self.inside.waiting _ _ _ c.queue.invariant c.queue.view_is c.self.invariant
-    (ap (λ (r : Replica). is_open r.content.phase) c.self.view_is ∙ c.requires.open) (subst IsGroup (sym c.in_ok-group.ensures) c.requires.group)
+    (ap (λ (r : Replica). is_open r.content.phase) c.self.view_is ∙ c.requires.open) c.blocks-blocks.ensures.fits
     c.len-offset.ensures.value c.in-Ok.ensures.after c.len.ensures.value)
 
 pub invariant_of-self-2 : goal.invariant_of-self-2
@@ -19,5 +18,5 @@ invariant_of-self-2 g c = rw (c.push_back_reserved.ensures.items, c.reserve.ensu
     c.len-offset.ensures.value c.in-Ok.ensures.after)
 
 pub returns-clause-file : goal.returns-clause-file
-returns-clause-file g c = rw (← c.self.view_is) (append_written g.D.Disk.state _ _ c.args.extent _ _ c.args.blocks.now c.in_ok-group.group c.add_group.result _
-    refl c.in_ok-group.ensures c.in-Ok.is c.add_group.ensures.file)
+returns-clause-file g c = rw (← c.self.view_is) (append_written g.D.Disk.state _ _ c.args.extent _ _ c.args.group c.args.group c.add_group.result _
+    refl refl c.in-Ok.is c.add_group.ensures.file)

@@ -1,5 +1,0 @@
-use Rattle.std.proofs.Common.{rules}
-use Rattle.enode_rules.proofs.sending.puts_of.Goals as goal
-
-pub returns-clause-packets : goal.returns-clause-packets
-returns-clause-packets c = search rules
