@@ -1,4 +1,5 @@
 //! Bytes that are shared: a piece of a buffer, a group of blocks as its record spells it, and a reader of spelled bytes.
+use crate::digest::{self, digest};
 use std::borrow::Borrow;
 use std::cmp::Ordering;
 use std::ops::{Deref, Range};
@@ -73,7 +74,10 @@ impl Ord for Bytes {
     }
 }
 
-/// A group as its record spells it: the count of its blocks, and each block after its size.
+/// So many bytes stand about a block: its size and its digest.
+const ABOUT_BLOCK: usize = 4 + digest::SIZE;
+
+/// A group as its record spells it: the count of its blocks, and each block after its size and before its digest.
 #[derive(Clone)]
 pub struct Group {
     spelling: Rc<[u8]>,
@@ -89,14 +93,18 @@ impl Group {
         writer.group()
     }
 
-    /// The group whose spelling these bytes begin with, and what follows it.
+    /// The group whose spelling these bytes begin with, each block with its own digest, and what follows it.
     pub fn read(bytes: &[u8]) -> Option<(Group, &[u8])> {
         let mut end = 1;
         for _ in 0..*bytes.first()? {
-            let size = bytes.get(end..end + 4)?;
-            end += 4 + u32::from_be_bytes(size.try_into().ok()?) as usize;
+            let (size, rest) = bytes.get(end..)?.split_first_chunk()?;
+            let (block, rest) = rest.split_at_checked(u32::from_be_bytes(*size) as usize)?;
+            if !rest.starts_with(&digest(block)) {
+                return None;
+            }
+            end += ABOUT_BLOCK + block.len();
         }
-        Some((Group { spelling: Rc::from(bytes.get(..end)?) }, &bytes[end..]))
+        Some((Group { spelling: Rc::from(&bytes[..end]) }, &bytes[end..]))
     }
 
     pub fn spelling(&self) -> &[u8] {
@@ -109,7 +117,7 @@ impl Group {
 
     /// How many bytes the blocks have.
     pub fn size(&self) -> u32 {
-        (self.spelling.len() - 1 - 4 * self.count()) as u32
+        (self.spelling.len() - 1 - ABOUT_BLOCK * self.count()) as u32
     }
 
     /// Where the blocks stand in the spelling.
@@ -117,9 +125,9 @@ impl Group {
         let mut end = 1;
         (0..self.count()).map(move |_| {
             let start = end + 4;
-            let size = u32::from_be_bytes(self.spelling[end..start].try_into().expect("four bytes"));
-            end = start + size as usize;
-            start..end
+            let size = u32::from_be_bytes(self.spelling[end..start].try_into().expect("four bytes")) as usize;
+            end = start + size + digest::SIZE;
+            start..start + size
         })
     }
 
@@ -182,6 +190,8 @@ impl GroupWriter<'_> {
         write(self.buffer);
         let size = (self.buffer.len() - start) as u32;
         self.buffer[start - 4..start].copy_from_slice(&size.to_be_bytes());
+        let digest = digest(&self.buffer[start..]);
+        self.buffer.extend_from_slice(&digest);
         self.buffer[0] = self.buffer[0].saturating_add(1);
     }
 

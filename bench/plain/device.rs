@@ -23,7 +23,7 @@ pub struct Device {
 
 impl Device {
     pub fn new() -> Device {
-        Device { bytes: b"XRF1\0".to_vec(), syncs: 0, up: true, fuse: 0, keep: false }
+        Device { bytes: b"XRF2\0".to_vec(), syncs: 0, up: true, fuse: 0, keep: false }
     }
 
     /// Adds the record of these fields, or stops in it.

@@ -1,7 +1,7 @@
 //! The anchor of the measurements: a program without proofs, in plain Rust, that runs the scripts of stampctl by the rules of
 //! docs/MODEL.md, keeps the bytes of docs/FORMATS.md, and prints the same lines. It has all actors: nodes with replicas, the stream
 //! manager, servers with their ranges, their checkpoints, their loads, their Gets and their splits, and the map; record files of
-//! version 1 in memory, after gates; all packets; and what was acknowledged.
+//! version 2 in memory, after gates; all packets; and what was acknowledged.
 //!
 //! It knows no merge of ranges: of a script with a `merge` nothing is run and nothing is printed, but the line on standard error,
 //! and the status is 2. It takes no words: there is no trace, no drawing and no dump. Nor has it what no run of a script comes to:
@@ -11,6 +11,7 @@ mod cache;
 mod checkpoint;
 mod client;
 mod device;
+mod digest;
 mod effects;
 mod formats;
 mod keys;

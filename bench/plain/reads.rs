@@ -1,8 +1,10 @@
 //! Gets of a range, and reads of what stands at a place.
 use crate::bytes::Bytes;
 use crate::cache::Held;
+use crate::effects::tell;
 use crate::formats::Page;
 use crate::keys::is_key;
+use crate::map::Hex;
 use crate::packet::{Actor, Body, Place, Places, Request};
 use crate::range::{Pause, Range, Stage, Step};
 use crate::refusal::Refusal;
@@ -142,6 +144,11 @@ impl Range {
             Found::Cell(Some(Cell::Inline(value))) => Some(value),
             Found::Cell(_) => None,
         };
+        let (range, generation, key) = (self.number, self.generation, Hex(&get.key));
+        match &value {
+            Some(value) => tell!(context.effects, "got {range} {generation} {key} {}", value.len()),
+            None => tell!(context.effects, "got {range} {generation} {key} none"),
+        }
         context.send(get.from, Body::Value { request: get.request, value });
         None
     }

@@ -1,6 +1,15 @@
 -- The digests of blocks.
-use Rattle.std.specs.Prelude.{◌≡◌, ℕ, List, [], map, get_or, Option, Some, None}
+use Rattle.std.specs.Prelude.{◌≡◌, ℕ, List, [], ◌∷◌, map, get_or, Option, Some, None}
+use Rattle.std.specs.Arc.{arc_slice_items}
 use Rattle.sha2.specs.Sha256.{sha256}
+use Rattle.block_types.specs.declared.digests.Known.{Known}
+use Rattle.block_types.specs.declared.digests.Known.TheVariants.{Nothing, One, All}
+
+-- what is known, as a list
+abbrev pub digests_in : Known → Option (List (List ℕ))
+digests_in Nothing = None
+digests_in (One digest) = Some (digest ∷ [])
+digests_in (All digests) = Some (arc_slice_items digests)
 
 -- those that are known are the blocks' own
 abbrev pub AreDigests : List (List ℕ) → Option (List (List ℕ)) → Type 0

@@ -9,10 +9,30 @@ use std::alloc::{AllocError, Global};
 use std::marker::Model;
 use std::sync::ArcSlice;
 
+/// What is known of the digests of some blocks.
+pub(crate) enum Known {
+    Nothing,
+    /// That of the one block, which takes no memory of its own.
+    One([u8; 32]),
+    /// That of each block, in order.
+    All(ArcSlice<[u8; 32]>),
+}
+
+// Written out, so that a crate above that lets one go has no proof of what is in it.
+impl Drop for Known {
+    fn drop(self) {
+        match self {
+            Known::Nothing => {}
+            Known::One(_) => {}
+            Known::All(_) => {}
+        }
+    }
+}
+
 /// The SHA-256 digest of each block of a group, in order, or nothing where they were not computed yet. Copies share the
 /// list.
 pub(crate) struct Digests {
-    known: Option<ArcSlice<[u8; 32]>>,
+    known: Known,
 }
 
 // Written out, so that a crate above that lets one go has no proof of what is in it.
@@ -23,12 +43,12 @@ impl Drop for Digests {
 }
 
 impl Model for Digests {
-    ghost use Rattle.std.specs.Prelude.{ℕ, List, Option, option_map};
-    ghost use Rattle.std.specs.Arc.{arc_slice_items};
+    ghost use Rattle.std.specs.Prelude.{ℕ, List, Option};
+    ghost use Rattle.block_types.specs.Digests.{digests_in};
 
     ghost Value = { Option (List (List ℕ)) };
 
-    ghost view = { λ d. option_map arc_slice_items d.known };
+    ghost view = { λ d. digests_in d.known };
 }
 
 impl Digests {
@@ -36,16 +56,35 @@ impl Digests {
     pub(crate) fn unknown() -> Digests
         ensures { result ≡ None }
     {
-        Digests { known: None }
+        Digests {
+            known: Known::Nothing,
+        }
     }
 
     /// These are known. An error is out of memory (22).
     pub(crate) fn of(digests: Vec<[u8; 32]>) -> Result<Digests, AllocError>
         ensures { IfOk result (λ d. d ≡ Some digests.items) }
     {
+        if let [digest] = digests.as_slice() {
+            return Ok(Digests {
+                known: Known::One(*digest),
+            });
+        }
         Ok(Digests {
-            known: Some(ArcSlice::from_vec(digests)?),
+            known: Known::All(ArcSlice::from_vec(digests)?),
         })
+    }
+
+    /// Those of these blocks. An error is out of memory (22).
+    pub(crate) fn computed(alloc: Global, blocks: &[Bytes]) -> Result<Digests, AllocError>
+        ensures { IfOk result (λ d. d ≡ Some (map sha256 blocks.now)) }
+    {
+        if let [block] = blocks {
+            return Ok(Digests {
+                known: Known::One(Sha256::digest(block.as_slice())),
+            });
+        }
+        Digests::of(digests_of(alloc, blocks)?)
     }
 
     /// The same again. An error is out of memory (22).
@@ -53,9 +92,12 @@ impl Digests {
         ensures { IfOk result (λ copy. copy ≡ self.now) }
     {
         match &self.known {
-            None => Ok(Digests { known: None }),
-            Some(known) => Ok(Digests {
-                known: Some(known.clone()?),
+            Known::Nothing => Ok(Digests::unknown()),
+            Known::One(digest) => Ok(Digests {
+                known: Known::One(*digest),
+            }),
+            Known::All(digests) => Ok(Digests {
+                known: Known::All(digests.clone()?),
             }),
         }
     }
@@ -64,7 +106,7 @@ impl Digests {
     pub(crate) fn are_known(&self) -> bool
         ensures { result ≡ is_some self.now }
     {
-        self.known.is_some()
+        !matches!(self.known, Known::Nothing)
     }
 
     /// The digest at an index, where it is known.
@@ -72,8 +114,10 @@ impl Digests {
         ensures { (blocks : List (List ℕ)) → AreDigests blocks self.now → index < length blocks → IsDigestAt blocks index result }
     {
         match &self.known {
-            None => None,
-            Some(known) => match known.get(index) {
+            Known::Nothing => None,
+            Known::One(digest) if index == 0 => Some(*digest),
+            Known::One(_) => None,
+            Known::All(digests) => match digests.get(index) {
                 None => None,
                 Some(digest) => Some(*digest),
             },
@@ -82,7 +126,7 @@ impl Digests {
 }
 
 /// The digests of blocks, in order. An error is out of memory (22).
-pub(crate) fn digests_of(alloc: Global, blocks: &[Bytes]) -> Result<Vec<[u8; 32]>, AllocError>
+fn digests_of(alloc: Global, blocks: &[Bytes]) -> Result<Vec<[u8; 32]>, AllocError>
     ensures { IfOk result (λ made. made.items ≡ map sha256 blocks.now) }
 {
     let mut made = Vec::with_capacity(alloc, blocks.len())?;

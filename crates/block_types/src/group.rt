@@ -5,7 +5,7 @@ ghost use Rattle.std.specs.Arc.{arc_slice_items};
 ghost use Rattle.sha2.specs.Sha256.{sha256};
 ghost use Rattle.block_types.specs.Limits.{IsBlock, IsGroup, group_size, group_fault, texts_of};
 
-use crate::digests::{Digests, digests_of};
+use crate::digests::Digests;
 use crate::fault::GroupFault;
 use crate::limits::{MAX_BLOCK, MAX_BLOCKS};
 use bytes::Bytes;
@@ -200,11 +200,8 @@ impl Group {
             return self.copy();
         }
         let blocks = self.blocks.clone()?;
-        let digests = digests_of(alloc, &blocks)?;
-        Ok(Group {
-            blocks,
-            digests: Digests::of(digests)?,
-        })
+        let digests = Digests::computed(alloc, &blocks)?;
+        Ok(Group { blocks, digests })
     }
 
     /// The SHA-256 digest of the block at an index: the one that is known, or else it is computed. Takes no memory.

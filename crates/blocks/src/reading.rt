@@ -2,11 +2,12 @@
 //!
 //! A reader of what may hold payload takes the buffer `text` too, which its bytes are the end of: what it answers shares
 //! that buffer.
-ghost use Rattle.std.specs.Prelude.{◌≡◌, ◌<◌, ◌≤◌, ◌^◌, ◌++◌, ℕ, List, length, drop, IfOk, MatchResult};
+ghost use Rattle.std.specs.Prelude.{◌≡◌, ◌<◌, ◌≤◌, ◌^◌, ◌++◌, ℕ, List, length, drop, IfOk, OnOk, MatchResult};
 ghost use Rattle.std.specs.List.{AllByRecursion};
-ghost use Rattle.block_types.specs.Limits.{IsBlock, groups_size};
+ghost use Rattle.block_types.specs.Limits.{IsBlock, IsGroup, groups_size};
 ghost use Rattle.blocks.specs.Format.{Gives, IsEndOf, after, many_at};
 ghost use Rattle.block_types.specs.declared.record.Version.TheVariants.{V1};
+ghost use Rattle.blocks.specs.Compared.{compared, all_compared};
 ghost use Rattle.blocks.specs.Record.{check, spelling, Fits, Begins};
 ghost use Rattle.blocks.specs.Reading.{block_at, group_at, nodes_at, groups_at, make_record_at, append_record_at, fence_record_at, freeze_record_at, seal_record_at, fill_record_at, fields_at, body_at, record_at};
 
@@ -18,17 +19,24 @@ use block_types::{
 };
 use bytes::Bytes;
 use sha2::{Digest, Sha256};
-use std::alloc::Global;
+use std::alloc::{AllocError, Global};
 
-/// The bytes after what stands after a block.
-fn after_check<'a>(version: Version, block: &[u8], bytes: &'a [u8]) -> Result<&'a [u8], BlockFault>
-    ensures { Gives (λ x. x.now) result (after (check version block.now) bytes.now) }
+/// The bytes after what stands after a block. A digest that was compared is kept.
+fn after_check<'a>(
+    version: Version,
+    block: &[u8],
+    bytes: &'a [u8],
+    kept: &mut Vec<[u8; 32]>,
+) -> Result<&'a [u8], BlockFault>
+    ensures read { Gives (λ x. x.now) result (after (check version block.now) bytes.now) }
+    ensures kept { OnOk result (kept.new.items ≡ kept.old.items ++ compared version block.now) }
 {
     match version {
         Version::V1 => Ok(bytes),
         Version::V2 => {
             let digest = Sha256::digest(block);
             if bytes.starts_with(&digest) {
+                kept.push(digest)?;
                 Ok(&bytes[digest.len()..])
             } else {
                 Err(BlockFault::Damaged)
@@ -42,9 +50,11 @@ fn block_of<'a>(
     version: Version,
     text: &Bytes,
     bytes: &'a [u8],
+    kept: &mut Vec<[u8; 32]>,
 ) -> Result<(Bytes, &'a [u8]), BlockFault>
     requires { IsEndOf bytes.now text.now }
     ensures read { Gives (λ x. (x.0, x.1.now)) result (block_at version bytes.now) }
+    ensures kept { IfOk result (λ x. kept.new.items ≡ kept.old.items ++ compared version x.0) }
     ensures fits { IfOk result (λ x. IsBlock x.0) }
     ensures end { IfOk result (λ x. IsEndOf x.1.now text.now) }
 {
@@ -53,7 +63,7 @@ fn block_of<'a>(
         return Err(BlockFault::Damaged);
     }
     let (block, rest) = shared_of(len as usize, text, rest)?;
-    let rest = after_check(version, block.as_slice(), rest)?;
+    let rest = after_check(version, block.as_slice(), rest, kept)?;
     Ok((block, rest))
 }
 
@@ -63,20 +73,38 @@ fn blocks_of<'a>(
     count: u8,
     text: &Bytes,
     bytes: &'a [u8],
-) -> Result<(Vec<Bytes>, &'a [u8]), BlockFault>
+) -> Result<(Vec<Bytes>, Vec<[u8; 32]>, &'a [u8]), BlockFault>
     requires { IsEndOf bytes.now text.now }
-    ensures read { Gives (λ x. (x.0.items, x.1.now)) result (many_at (block_at version) count bytes.now) }
+    ensures read { Gives (λ x. (x.0.items, x.2.now)) result (many_at (block_at version) count bytes.now) }
+    ensures kept { IfOk result (λ x. x.1.items ≡ all_compared version x.0.items) }
     ensures fits { IfOk result (λ x. (length x.0.items ≡ count) × AllByRecursion IsBlock x.0.items) }
-    ensures end { IfOk result (λ x. IsEndOf x.1.now text.now) }
+    ensures end { IfOk result (λ x. IsEndOf x.2.now text.now) }
 {
     let mut read = Vec::new(alloc);
+    let mut kept = Vec::new(alloc);
     let mut rest = bytes;
     for _ in 0..count {
-        let (block, after) = block_of(version, text, rest)?;
+        let (block, after) = block_of(version, text, rest, &mut kept)?;
         read.push(block)?;
         rest = after;
     }
-    Ok((read, rest))
+    Ok((read, kept, rest))
+}
+
+/// The group of these blocks, with the digests that were compared, where there are any.
+fn group_with(
+    version: Version,
+    blocks: Vec<Bytes>,
+    kept: Vec<[u8; 32]>,
+) -> Result<Group, AllocError>
+    requires group { IsGroup blocks.items }
+    requires kept { kept.items ≡ all_compared version blocks.items }
+    ensures { IfOk result (λ group. group ≡ blocks.items) }
+{
+    match version {
+        Version::V1 => Group::of(blocks),
+        Version::V2 => Group::of_digests(blocks, kept),
+    }
 }
 
 #[tactic(auto, unfolding(crate::specs::Reading::group_at))]
@@ -94,8 +122,8 @@ fn group_of<'a>(
     if !(1..=MAX_BLOCKS).contains(&count) {
         return Err(BlockFault::Damaged);
     }
-    let (blocks, rest) = blocks_of(alloc, version, count, text, rest)?;
-    Ok((Group::of(blocks)?, rest))
+    let (blocks, kept, rest) = blocks_of(alloc, version, count, text, rest)?;
+    Ok((group_with(version, blocks, kept)?, rest))
 }
 
 #[tactic(auto, unfolding(crate::specs::Reading::nodes_at, block_types::specs::Limits::are_nodes))]

@@ -1,44 +1,63 @@
-//! Writing a record as bytes. Each writer appends what its clause says; where one runs out of memory, a part of it
-//! may stand in the buffer after what was there, and `encode_as` cuts it off.
+//! Writing a record as bytes, of which the long pieces are shared. Each writer appends what its clause says; where one runs out of
+//! memory, a part of it may stand after what was there.
 ghost use Rattle.std.specs.Prelude.{◌≡◌, [], ◌∷◌, ◌++◌, ◌<◌, ◌^◌, get_or, length, OnOk, OnErr};
 ghost use Rattle.block_types.specs.declared.record.Version.TheVariants.{V1};
 ghost use Rattle.blocks.specs.Record.{number, block, group, groups, nodes, body, spelling, Fits, IsInRange};
-ghost use Rattle.blocks.specs.Writing.{Keeps};
 
-use crate::writer::{put_bytes, put_u8, put_u32, put_u64};
+use crate::measures::body_len;
+use crate::woven::Woven;
 use block_types::{Group, Groups, Memory, Nodes, Record, Version};
 use byteorder::{BigEndian, ByteOrder};
+use bytes::Bytes;
 use std::alloc::AllocError;
 
-// Room for a kind and the numbers of a record, and for what stands about the bytes of a block.
-const ROOM: usize = 64;
+#[tactic(auto, unfolding(crate::specs::Record::number))]
+fn put_u8(out: &mut Woven, n: u8) -> Result<(), AllocError>
+    ensures { OnOk result (out.new.bytes ≡ out.old.bytes ++ n ∷ []) }
+{
+    out.put(&[n])
+}
 
-const PER_BLOCK: usize = 36;
+#[tactic(auto, unfolding(crate::specs::Record::number))]
+fn put_u32(out: &mut Woven, n: u32) -> Result<(), AllocError>
+    ensures { OnOk result (out.new.bytes ≡ out.old.bytes ++ number 4 n) }
+{
+    let mut bytes = [0u8; 4];
+    BigEndian::write_u32(&mut bytes, n);
+    out.put(&bytes)
+}
+
+#[tactic(auto, unfolding(crate::specs::Record::number))]
+fn put_u64(out: &mut Woven, n: u64) -> Result<(), AllocError>
+    ensures { OnOk result (out.new.bytes ≡ out.old.bytes ++ number 8 n) }
+{
+    let mut bytes = [0u8; 8];
+    BigEndian::write_u64(&mut bytes, n);
+    out.put(&bytes)
+}
 
 /// Appends the block of a group at an index, whose digest is computed only where the group does not know it.
 fn put_block(
-    out: &mut Vec<u8>,
+    out: &mut Woven,
     version: Version,
     text: &Group,
     index: usize,
 ) -> Result<(), AllocError>
     requires { index < length text.now }
-    ensures ok { OnOk result (out.new.items ≡ out.old.items ++ block version (get_or text.now index [])) }
-    ensures kept { Keeps out.old.items out.new.items }
+    ensures ok { OnOk result (out.new.bytes ≡ out.old.bytes ++ block version (get_or text.now index [])) }
 {
-    let bytes = text.blocks()[index].as_slice();
+    let bytes = &text.blocks()[index];
     put_u32(out, bytes.len() as u32)?;
-    put_bytes(out, bytes)?;
+    out.share(bytes)?;
     match version {
         Version::V1 => Ok(()),
-        Version::V2 => put_bytes(out, &text.digest(index)),
+        Version::V2 => out.put(&text.digest(index)),
     }
 }
 
 #[tactic(auto, unfolding(crate::specs::Record::number))]
-fn put_group(out: &mut Vec<u8>, version: Version, text: &Group) -> Result<(), AllocError>
-    ensures ok { OnOk result (out.new.items ≡ out.old.items ++ group version text.now) }
-    ensures kept { Keeps out.old.items out.new.items }
+fn put_group(out: &mut Woven, version: Version, text: &Group) -> Result<(), AllocError>
+    ensures ok { OnOk result (out.new.bytes ≡ out.old.bytes ++ group version text.now) }
 {
     let count = text.blocks().len();
     put_u8(out, count as u8)?;
@@ -48,10 +67,9 @@ fn put_group(out: &mut Vec<u8>, version: Version, text: &Group) -> Result<(), Al
     Ok(())
 }
 
-fn put_groups(out: &mut Vec<u8>, version: Version, all: &[Group]) -> Result<(), AllocError>
+fn put_groups(out: &mut Woven, version: Version, all: &[Group]) -> Result<(), AllocError>
     requires { length all.now < 2 ^ 32 }
-    ensures ok { OnOk result (out.new.items ≡ out.old.items ++ groups version all.now) }
-    ensures kept { Keeps out.old.items out.new.items }
+    ensures ok { OnOk result (out.new.bytes ≡ out.old.bytes ++ groups version all.now) }
 {
     put_u32(out, all.len() as u32)?;
     for one in all {
@@ -60,9 +78,8 @@ fn put_groups(out: &mut Vec<u8>, version: Version, all: &[Group]) -> Result<(), 
     Ok(())
 }
 
-fn put_nodes(out: &mut Vec<u8>, places: &Nodes) -> Result<(), AllocError>
-    ensures ok { OnOk result (out.new.items ≡ out.old.items ++ nodes places.now) }
-    ensures kept { Keeps out.old.items out.new.items }
+fn put_nodes(out: &mut Woven, places: &Nodes) -> Result<(), AllocError>
+    ensures ok { OnOk result (out.new.bytes ≡ out.old.bytes ++ nodes places.now) }
 {
     put_u8(out, places.primary)?;
     put_u8(out, places.second)?;
@@ -70,15 +87,14 @@ fn put_nodes(out: &mut Vec<u8>, places: &Nodes) -> Result<(), AllocError>
 }
 
 fn put_make(
-    out: &mut Vec<u8>,
+    out: &mut Woven,
     extent: u64,
     fence: u64,
     target: u32,
     places: &Nodes,
 ) -> Result<(), AllocError>
-    ensures ok { OnOk result (out.new.items
-        ≡ out.old.items ++ 1 ∷ (number 8 extent ++ (number 8 fence ++ (number 4 target ++ nodes places.now)))) }
-    ensures kept { Keeps out.old.items out.new.items }
+    ensures { OnOk result (out.new.bytes
+        ≡ out.old.bytes ++ 1 ∷ (number 8 extent ++ (number 8 fence ++ (number 4 target ++ nodes places.now)))) }
 {
     put_u8(out, 1)?;
     put_u64(out, extent)?;
@@ -88,15 +104,14 @@ fn put_make(
 }
 
 fn put_append(
-    out: &mut Vec<u8>,
+    out: &mut Woven,
     version: Version,
     extent: u64,
     offset: u32,
     text: &Group,
 ) -> Result<(), AllocError>
-    ensures ok { OnOk result (out.new.items
-        ≡ out.old.items ++ 2 ∷ (number 8 extent ++ (number 4 offset ++ group version text.now))) }
-    ensures kept { Keeps out.old.items out.new.items }
+    ensures { OnOk result (out.new.bytes
+        ≡ out.old.bytes ++ 2 ∷ (number 8 extent ++ (number 4 offset ++ group version text.now))) }
 {
     put_u8(out, 2)?;
     put_u64(out, extent)?;
@@ -104,26 +119,23 @@ fn put_append(
     put_group(out, version, text)
 }
 
-fn put_fence(out: &mut Vec<u8>, extent: u64, generation: u64) -> Result<(), AllocError>
-    ensures ok { OnOk result (out.new.items ≡ out.old.items ++ 3 ∷ (number 8 extent ++ number 8 generation)) }
-    ensures kept { Keeps out.old.items out.new.items }
+fn put_fence(out: &mut Woven, extent: u64, generation: u64) -> Result<(), AllocError>
+    ensures ok { OnOk result (out.new.bytes ≡ out.old.bytes ++ 3 ∷ (number 8 extent ++ number 8 generation)) }
 {
     put_u8(out, 3)?;
     put_u64(out, extent)?;
     put_u64(out, generation)
 }
 
-fn put_freeze(out: &mut Vec<u8>, extent: u64) -> Result<(), AllocError>
-    ensures ok { OnOk result (out.new.items ≡ out.old.items ++ 4 ∷ number 8 extent) }
-    ensures kept { Keeps out.old.items out.new.items }
+fn put_freeze(out: &mut Woven, extent: u64) -> Result<(), AllocError>
+    ensures ok { OnOk result (out.new.bytes ≡ out.old.bytes ++ 4 ∷ number 8 extent) }
 {
     put_u8(out, 4)?;
     put_u64(out, extent)
 }
 
-fn put_seal(out: &mut Vec<u8>, extent: u64, length: u32) -> Result<(), AllocError>
-    ensures ok { OnOk result (out.new.items ≡ out.old.items ++ 5 ∷ (number 8 extent ++ number 4 length)) }
-    ensures kept { Keeps out.old.items out.new.items }
+fn put_seal(out: &mut Woven, extent: u64, length: u32) -> Result<(), AllocError>
+    ensures ok { OnOk result (out.new.bytes ≡ out.old.bytes ++ 5 ∷ (number 8 extent ++ number 4 length)) }
 {
     put_u8(out, 5)?;
     put_u64(out, extent)?;
@@ -131,7 +143,7 @@ fn put_seal(out: &mut Vec<u8>, extent: u64, length: u32) -> Result<(), AllocErro
 }
 
 fn put_fill(
-    out: &mut Vec<u8>,
+    out: &mut Woven,
     version: Version,
     extent: u64,
     from: u32,
@@ -139,9 +151,8 @@ fn put_fill(
     all: &Groups,
 ) -> Result<(), AllocError>
     requires { length all.now < 2 ^ 32 }
-    ensures ok { OnOk result (out.new.items
-        ≡ out.old.items ++ 6 ∷ (number 8 extent ++ (number 4 from ++ (number 4 upto ++ groups version all.now)))) }
-    ensures kept { Keeps out.old.items out.new.items }
+    ensures { OnOk result (out.new.bytes
+        ≡ out.old.bytes ++ 6 ∷ (number 8 extent ++ (number 4 from ++ (number 4 upto ++ groups version all.now)))) }
 {
     put_u8(out, 6)?;
     put_u64(out, extent)?;
@@ -150,18 +161,16 @@ fn put_fill(
     put_groups(out, version, &all.items)
 }
 
-fn put_manage(out: &mut Vec<u8>, text: &[u8]) -> Result<(), AllocError>
-    ensures ok { OnOk result (out.new.items ≡ out.old.items ++ 7 ∷ text.now) }
-    ensures kept { Keeps out.old.items out.new.items }
+fn put_manage(out: &mut Woven, text: &Bytes) -> Result<(), AllocError>
+    ensures ok { OnOk result (out.new.bytes ≡ out.old.bytes ++ 7 ∷ text.now) }
 {
     put_u8(out, 7)?;
-    put_bytes(out, text)
+    out.share(text)
 }
 
-fn put_body(out: &mut Vec<u8>, version: Version, written: &Record) -> Result<(), AllocError>
+fn put_body(out: &mut Woven, version: Version, written: &Record) -> Result<(), AllocError>
     requires { IsInRange written.now }
-    ensures ok { OnOk result (out.new.items ≡ out.old.items ++ body version written.now) }
-    ensures kept { Keeps out.old.items out.new.items }
+    ensures ok { OnOk result (out.new.bytes ≡ out.old.bytes ++ body version written.now) }
 {
     match written {
         Record::Make {
@@ -184,53 +193,49 @@ fn put_body(out: &mut Vec<u8>, version: Version, written: &Record) -> Result<(),
             length,
             groups,
         } => put_fill(out, version, *extent, *from, *length, groups),
-        Record::Manage { text } => put_manage(out, text.as_slice()),
+        Record::Manage { text } => put_manage(out, text),
     }
 }
 
-/// So many bytes of room are made before a record is written, so that few writers have to grow the buffer.
-fn room_of(written: &Record) -> usize {
-    match written {
-        Record::Append { group, .. } => ROOM
-            + group.blocks().len() * PER_BLOCK
-            + group.size() as usize,
-        Record::Fill { from, length, .. } => ROOM + length.saturating_sub(*from) as usize,
-        Record::Manage { text } => text.as_slice().len().saturating_add(ROOM),
-        _ => ROOM,
-    }
-}
-
-/// Appends a record, whose length is put in when its body stands behind it.
-#[tactic(auto, unfolding(crate::specs::Record::number))]
-fn put_record(out: &mut Vec<u8>, version: Version, written: &Record) -> Result<(), AllocError>
+// Appends a record.
+fn put_record(out: &mut Woven, version: Version, written: &Record) -> Result<(), AllocError>
     requires { Fits version written.now }
-    ensures ok { OnOk result (out.new.items ≡ out.old.items ++ spelling version written.now) }
-    ensures kept { Keeps out.old.items out.new.items }
+    ensures { OnOk result (out.new.bytes ≡ out.old.bytes ++ spelling version written.now) }
 {
-    out.reserve(room_of(written))?;
-    let start = out.len();
-    put_u32(out, 0)?;
-    put_body(out, version, written)?;
-    let len = (out.len() - start - 4) as u32;
-    BigEndian::write_u32(&mut out[start..], len);
-    Ok(())
+    put_u32(out, body_len(version, written))?;
+    put_body(out, version, written)
 }
 
-/// Appends the one spelling of a record in the version. Where memory runs out (22) it changes nothing.
+/// The one spelling of a record in the version, in the place of what was there. It shares the blocks of 512 bytes and more, and a text
+/// that is so long. Where memory runs out (22) no bytes are there.
 ///
 /// That the record fits the version is the caller's condition: its fields are in range, and its body's size fits 32 bits.
+pub fn weave_as(version: Version, written: &Record, out: &mut Woven) -> Result<(), Memory>
+    requires { Fits version written.now }
+    ensures ok { OnOk result (out.new.bytes ≡ spelling version written.now) }
+    ensures err { OnErr result (out.new.bytes ≡ []) }
+{
+    out.clear();
+    match put_record(out, version, written) {
+        Ok(()) => Ok(()),
+        Err(_) => {
+            out.release();
+            Err(Memory)
+        }
+    }
+}
+
+/// Appends the one spelling of a record in the version, which `weave_as` makes. Where memory runs out (22) it changes nothing.
 pub fn encode_as(version: Version, written: &Record, out: &mut Vec<u8>) -> Result<(), Memory>
     requires { Fits version written.now }
     ensures ok { OnOk result (out.new.items ≡ out.old.items ++ spelling version written.now) }
     ensures err { OnErr result (out.new.items ≡ out.old.items) }
 {
-    let start = out.len();
-    match put_record(out, version, written) {
+    let mut text = Woven::new(*out.allocator());
+    weave_as(version, written, &mut text)?;
+    match text.append_to(out) {
         Ok(()) => Ok(()),
-        Err(_) => {
-            out.truncate(start);
-            Err(Memory)
-        }
+        Err(_) => Err(Memory),
     }
 }
 

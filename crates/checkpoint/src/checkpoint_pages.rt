@@ -9,9 +9,8 @@ use crate::combination::has_place;
 use block_types::Group;
 use bytes::Bytes;
 use checkpoint_format::{Index, Page, PageAt, PageList, write_pages};
-use memtable::{Cell, Place};
+use memtable::{Cells, Place};
 use std::alloc::{AllocError, Global};
-use std::collections::BTreeMap;
 use std::marker::Model;
 use wire::ExtentId;
 
@@ -177,7 +176,7 @@ impl CheckpointPages {
     /// beside it once. An error is out of memory (22).
     ///
     /// That the entries are in range is the caller's condition.
-    pub fn of(alloc: Global, entries: &BTreeMap<Bytes, Cell>) -> Result<CheckpointPages, AllocError>
+    pub fn of(alloc: Global, entries: &Cells) -> Result<CheckpointPages, AllocError>
         requires { AllByRecursion IsFit entries.now.entries }
         ensures { IfOk result (λ pages. pages ≡ specs.pages_to_write entries.now.entries) }
     {

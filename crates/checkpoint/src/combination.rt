@@ -10,7 +10,7 @@ use crate::checkpoint_pages::CheckpointPages;
 use block_types::BlockFault;
 use bytes::Bytes;
 use checkpoint_format::entries_of;
-use memtable::{Cell, CellMap};
+use memtable::{Cell, CellMap, Cells, Key};
 use metadata::KeyRange;
 use std::alloc::{AllocError, Global};
 use std::collections::BTreeMap;
@@ -60,10 +60,7 @@ pub fn add_page(
 }
 
 /// The same entries again, which share their keys and values.
-fn copied(
-    alloc: Global,
-    entries: &BTreeMap<Bytes, Cell>,
-) -> Result<BTreeMap<Bytes, Cell>, AllocError>
+fn copied(alloc: Global, entries: &Cells) -> Result<Cells, AllocError>
     ensures { IfOk result (λ copy. copy.entries ≡ entries.now.entries) }
 {
     let mut copy = BTreeMap::new(alloc);
@@ -74,10 +71,7 @@ fn copied(
 }
 
 /// Puts other entries over those that are there, and shares their keys and values.
-fn put_copies(
-    all: &mut BTreeMap<Bytes, Cell>,
-    newer: &BTreeMap<Bytes, Cell>,
-) -> Result<(), AllocError>
+fn put_copies(all: &mut Cells, newer: &Cells) -> Result<(), AllocError>
     ensures { OnOk result (all.new.entries ≡ put_all all.old.entries newer.now.entries) }
 {
     for (key, cell) in newer {
@@ -87,11 +81,11 @@ fn put_copies(
 }
 
 /// Puts changes over the entries that are there, from left to right, and shares their keys and values.
-fn put_changes(all: &mut BTreeMap<Bytes, Cell>, changes: &[(Bytes, Cell)]) -> Result<(), AllocError>
+fn put_changes(all: &mut Cells, changes: &[(Bytes, Cell)]) -> Result<(), AllocError>
     ensures { OnOk result (all.new.entries ≡ put_all all.old.entries changes.now) }
 {
     for change in changes {
-        all.insert(change.0.clone()?, change.1.copy()?)?;
+        all.insert(Key::of(change.0.clone()?), change.1.copy()?)?;
     }
     Ok(())
 }
@@ -106,10 +100,10 @@ fn is_deleted(cell: &Cell) -> bool
 /// no value. They share the keys and values of all three.
 fn combined_entries(
     alloc: Global,
-    older: &BTreeMap<Bytes, Cell>,
+    older: &Cells,
     changes: &[(Bytes, Cell)],
-    newer: &BTreeMap<Bytes, Cell>,
-) -> Result<BTreeMap<Bytes, Cell>, AllocError>
+    newer: &Cells,
+) -> Result<Cells, AllocError>
     ensures { IfOk result (λ all. all.entries ≡ specs.combined (put_all older.now.entries changes.now) (Some newer.now.entries)) }
 {
     let mut all = copied(alloc, older)?;
@@ -128,7 +122,7 @@ pub fn combine(
     alloc: Global,
     merged: &CellMap,
     changes: &[(Bytes, Cell)],
-    newer: &BTreeMap<Bytes, Cell>,
+    newer: &Cells,
 ) -> Result<CheckpointPages, AllocError>
     requires changes { AllByRecursion IsFit changes.now }
     requires newer { AllByRecursion IsFit newer.now.entries }
@@ -140,7 +134,7 @@ pub fn combine(
 }
 
 /// Whether a value of the entries stands outside of their pages, as their index says.
-pub fn has_place(entries: &BTreeMap<Bytes, Cell>) -> bool
+pub fn has_place(entries: &Cells) -> bool
     ensures { result ≡ specs.has_place entries.now.entries }
 {
     for (_, cell) in entries {

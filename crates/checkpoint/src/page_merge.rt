@@ -13,10 +13,10 @@ use crate::installed_index::InstalledIndex;
 use crate::pages::Pages;
 use crate::unmerged_page::UnmergedPage;
 use bytes::Bytes;
-use memtable::{Cell, CellMap, Place};
+use memtable::{Cell, CellMap, Cells, Place};
 use metadata::{KeyRange, copied_keys};
 use std::alloc::{AllocError, Global};
-use std::collections::{BTreeMap, VecDeque};
+use std::collections::VecDeque;
 use std::marker::Model;
 
 /// What pages bring that were read or were at hand: their changes, in order, and how many pages they are.
@@ -269,7 +269,7 @@ impl PageMerge {
         &self,
         alloc: Global,
         changes: &PageChanges,
-        newer: &BTreeMap<Bytes, Cell>,
+        newer: &Cells,
     ) -> Result<CheckpointPages, AllocError>
         requires { AllByRecursion IsFit newer.now.entries }
         ensures { (m : specs.MergeState) → specs.LeadsTo changes.now self.now m → IfOk result (λ pages. pages ≡ pages_to_write (combined m.entries (Some newer.now.entries))) }

@@ -16,9 +16,8 @@ use crate::page_text::PageText;
 use block_types::BlockFault;
 use blocks::reader::ended;
 use bytes::Bytes;
-use memtable::Cell;
+use memtable::{Cell, Cells};
 use std::alloc::{AllocError, Global};
-use std::collections::BTreeMap;
 
 /// A page that was written.
 pub struct Page {
@@ -189,7 +188,7 @@ fn add_entry(
 /// It walks through the table once, and copies each key and each value beside it once. An error is out of memory (22).
 ///
 /// That the entries are in range is the caller's condition.
-pub fn write_pages(alloc: Global, entries: &BTreeMap<Bytes, Cell>) -> Result<Vec<Page>, AllocError>
+pub fn write_pages(alloc: Global, entries: &Cells) -> Result<Vec<Page>, AllocError>
     requires { AllByRecursion IsFit entries.now.entries }
     ensures pages { IfOk result (λ pages. pages.items ≡ map page_of (pages_of entries.now.entries)) }
 
@@ -199,7 +198,7 @@ pub fn write_pages(alloc: Global, entries: &BTreeMap<Bytes, Cell>) -> Result<Vec
     let mut pages = Vec::new(alloc);
     let mut text = PageText::new(alloc)?;
     for (key, cell) in entries {
-        text = add_entry(alloc, &mut pages, text, key, cell)?;
+        text = add_entry(alloc, &mut pages, text, key.bytes(), cell)?;
     }
     if text.is_empty() {
         return Ok(pages);

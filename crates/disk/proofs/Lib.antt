@@ -13,3 +13,4 @@ pub mod Faulting
 pub mod Made
 pub mod Making
 pub mod Texts
+pub mod Parts

@@ -1,5 +1,5 @@
 -- The bytes of a disk in memory, and what a crash may do to them.
-use Rattle.std.specs.Prelude.{◌≡◌, ◌⊎◌, ℕ, ◌+◌, ◌-◌, ◌≤◌, Bool, Option, List, ◌++◌, length, take, drop, min, nat_le, if◌then◌else◌}
+use Rattle.std.specs.Prelude.{◌≡◌, ◌⊎◌, ℕ, ◌+◌, ◌-◌, ◌≤◌, Bool, true, Option, List, [], ◌++◌, length, take, drop, min, nat_le, if◌then◌else◌}
 use Rattle.disk.specs.Disk.{DiskState}
 use Rattle.disk.specs.History.{Event, failures_in, HeldSince}
 
@@ -45,3 +45,17 @@ image_state held events stop sure = record {
   synced = held.synced;
   sure = sure;
 }
+
+-- the bytes of a disk in three parts: those in front are made sure of, and those behind it or not
+abbrev pub in_parts : List ℕ → ImageBytes → List ℕ → Bool → ImageBytes
+in_parts front flat tail sure = record {
+  seen = front ++ flat.seen ++ tail;
+  synced = front ++ flat.synced ++ (if sure then tail else []);
+  seen_room = flat.seen_room;
+  synced_room = flat.synced_room;
+}
+
+-- Where the last part is made sure of, so many bytes of the middle one are too, which has room for all bytes.
+pub record IsInParts (front : List ℕ) (flat : ImageBytes) (tail : List ℕ) (sure : Bool) : Type 0 where
+  pub whole : sure ≡ true → length flat.seen ≤ length flat.synced
+  pub room : length front + length flat.seen + length tail ≤ flat.seen_room

@@ -1,8 +1,11 @@
 //! Buffers of bytes that are written over.
-ghost use Rattle.std.specs.Prelude.{◌≡◌, ◌+◌, ◌≤◌, ◌++◌, length, OnOk, OnErr, IsOk, vec_capacity};
+ghost use Rattle.std.specs.Prelude.{◌≡◌, ◌+◌, ◌≤◌, ◌++◌, [], length, OnOk, OnErr, IsOk, vec_capacity};
 ghost use Rattle.disk.specs.Disk.{Holds};
 
 use std::alloc::AllocError;
+
+// Fewer bytes are copied when their buffer grows.
+const FEW: usize = 4_096;
 
 /// Puts bytes in the place of those from `at` on.
 pub(crate) fn put_over(bytes: &mut Vec<u8>, at: usize, new: &[u8])
@@ -48,7 +51,21 @@ pub(crate) fn put_before(bytes: &mut Vec<u8>, front: &[u8]) -> Result<(), AllocE
     Ok(())
 }
 
-/// Makes room for so many bytes. An empty buffer is replaced, since to grow it would copy room that was never written.
+// Makes room for so many bytes in a new buffer, twice as many as before at least, since to grow this one would copy room that was
+// never written.
+fn replace(bytes: &mut Vec<u8>, room: usize) -> Result<(), AllocError>
+    ensures same { bytes.new.items ≡ bytes.old.items }
+    ensures ok { OnOk result (room ≤ vec_capacity bytes.new) }
+    ensures capacity { vec_capacity bytes.old ≤ vec_capacity bytes.new }
+{
+    let room = room.max(bytes.capacity().saturating_mul(2));
+    let mut larger = Vec::with_capacity(*bytes.allocator(), room)?;
+    larger.extend_from_slice(bytes)?;
+    *bytes = larger;
+    Ok(())
+}
+
+/// Makes room for so many bytes. A buffer with few bytes is replaced.
 pub(crate) fn make_room(bytes: &mut Vec<u8>, room: usize) -> Result<(), AllocError>
     ensures same { bytes.new.items ≡ bytes.old.items }
     ensures ok { OnOk result (room ≤ vec_capacity bytes.new) }
@@ -58,9 +75,23 @@ pub(crate) fn make_room(bytes: &mut Vec<u8>, room: usize) -> Result<(), AllocErr
     if room <= bytes.capacity() {
         return Ok(());
     }
-    if bytes.is_empty() {
-        *bytes = Vec::with_capacity(*bytes.allocator(), room)?;
-        return Ok(());
+    if bytes.len() < FEW {
+        return replace(bytes, room);
     }
     bytes.reserve(room - bytes.len())
+}
+
+/// Lets all bytes go, and no room. A buffer with many is replaced, so that what was written is given back.
+pub(crate) fn empty(bytes: &mut Vec<u8>)
+    ensures items { bytes.new.items ≡ [] }
+    ensures capacity { vec_capacity bytes.old ≤ vec_capacity bytes.new }
+{
+    if bytes.len() < FEW {
+        bytes.clear();
+        return;
+    }
+    match Vec::with_capacity(*bytes.allocator(), bytes.capacity()) {
+        Ok(fresh) => *bytes = fresh,
+        Err(_) => bytes.clear(),
+    }
 }

@@ -3,6 +3,7 @@ ghost use Rattle.std.specs.Prelude.{◌≡◌, ◌≤◌, ◌<◌, ◌^◌, leng
 ghost use Rattle.disk.specs.declared.device.DiskFault.TheVariants as faults;
 ghost use Rattle.disk.specs.Disk.{DiskState, Reserves, Writes, Syncs, CountsNow, OnlyNow, SeenIsThere, SyncedIsThere};
 
+use blocks::Woven;
 use std::alloc::{AllocError, AllocFailed, Global};
 use thiserror::Error;
 
@@ -68,6 +69,15 @@ pub trait Disk {
     fn write_at(&mut self, at: usize, bytes: &[u8]) -> Result<(), DiskFault>
         requires { at ≤ length (state self.old).seen }
         ensures { Writes (state self.old) (state self.new) at bytes.now result };
+
+    /// As `write_at` of these bytes, which the disk may take over. What the value holds afterwards means nothing.
+    fn write_woven(&mut self, at: usize, bytes: &mut Woven) -> Result<(), DiskFault>
+        requires { at ≤ length (state self.old).seen }
+        ensures { Writes (state self.old) (state self.new) at bytes.old.bytes result }
+    {
+        bytes.join();
+        self.write_at(at, bytes.joined())
+    }
 
     /// After it a crash leaves what a read gives, and nothing else. After `Failed` (20), and after `Memory` (22), which
     /// comes only without room, it may leave what it might have left before.

@@ -14,16 +14,17 @@ use crate::memory::{MemDisk, Stop};
 use crate::opening::find;
 use crate::scan::read_file;
 use crate::text::{kept, spelled};
-use crate::writing::{put_records, write_file, write_header};
+use crate::writing::{put_woven, write_file, write_header};
 use block_types::{BlockFault, Record, Version};
+use blocks::Woven;
 use std::alloc::{AllocError, Global};
 use std::marker::Model;
 
 /// The version that a new file has.
-const NEW_VERSION: Version = Version::V1;
+const NEW_VERSION: Version = Version::V2;
 
 /// A list of records on a disk, to which records are added one by one. In a clause its value shows the disk, the
-/// version, the records and whether it is stopped; in memory it holds none of the records, but the buffer that the last
+/// version, the records and whether it is stopped; in memory it holds none of the records, but the buffers that the last
 /// one was spelled in. An append makes four device
 /// calls: it writes the record after the last gate, which is still closed, and a closed gate after that; syncs; opens
 /// the gate; and syncs. After Calder et al., SOSP 2011, section 4.
@@ -35,7 +36,7 @@ pub struct RecordFile<D: Disk> {
     // a device call of an append has failed, so that the gate may be open or closed
     stopped: bool,
     // what the last record was spelled in, to be used again
-    text: Option<Vec<u8>>,
+    text: Option<Woven>,
 }
 
 // Written out, so that a crate above that lets one go has no proof of what is in it.
@@ -74,26 +75,26 @@ impl<D: Disk> RecordFile<D> {
         ensures any_moment { LeavesOnly (D.state self.old.disk) (D.state self.new.disk)
             (IsBeforeOrAfter self.old.version self.old.records added.now) }
     {
-        let text = spelled(&mut self.text, alloc, self.version, added)?;
+        let mut text = spelled(&mut self.text, alloc, self.version, added)?;
         // Read for its bound: so few bytes are there that the places below fit.
         let _size = self.disk.len();
         let next = self.end + text.len();
         self.disk.reserve(next + 1)?;
         self.stopped = true;
-        put_records(self.end, &text, &mut self.disk)?;
+        put_woven(self.end, &mut text, &mut self.disk)?;
         self.end = next;
         self.stopped = false;
         self.text = kept(text);
         Ok(())
     }
 
-    /// Makes a file with no record on an empty disk, of version 1 for now: five bytes, the version's letters and a closed
+    /// Makes a file with no record on an empty disk, of version 2: five bytes, the version's letters and a closed
     /// gate. A refusal hands the disk back. `Failed` (20) comes only where the disk's count of failures rose, and leaves
     /// no record; `Memory` (22) changes nothing.
     pub fn format(disk: D) -> Result<RecordFile<D>, (DiskFault, D)>
         requires empty { (D.state disk).seen ≡ [] }
         requires durable { Only (D.state disk).seen (D.state disk).may_leave }
-        ensures ok { IfOk result (λ file. (file.stopped ≡ false) × (file.version ≡ Version.V1) × (file.records ≡ [])) }
+        ensures ok { IfOk result (λ file. (file.stopped ≡ false) × (file.version ≡ Version.V2) × (file.records ≡ [])) }
         ensures steady { IsSteady (D.state disk) → MatchResult result
             (λ file. IsSteady (D.state file.disk))
             (λ e. (e.0 ≢ DiskFault.Failed) × IsSteady (D.state e.1)) }
@@ -118,7 +119,7 @@ impl<D: Disk> RecordFile<D> {
         }
     }
 
-    /// Makes a file of these records on an empty disk, of version 1 for now. With records it makes six device calls: it writes
+    /// Makes a file of these records on an empty disk, of version 2. With records it makes six device calls: it writes
     /// the header and a closed gate, and syncs; writes all behind the gate, and syncs; opens the gate, and syncs. Without any
     /// it is made after two. A refusal hands the disk back. `Failed` (20) comes only where the disk's count of failures rose,
     /// and leaves no record or all of them; `Memory` (22) changes nothing, since all growth comes before the first write.
@@ -129,16 +130,16 @@ impl<D: Disk> RecordFile<D> {
     ) -> Result<RecordFile<D>, (DiskFault, D)>
         requires empty { (D.state disk).seen ≡ [] }
         requires durable { Only (D.state disk).seen (D.state disk).may_leave }
-        requires fit { AllByRecursion (Fits Version.V1) records.now }
-        ensures ok { IfOk result (λ file. (file.stopped ≡ false) × (file.version ≡ Version.V1) × (file.records ≡ records.now)
+        requires fit { AllByRecursion (Fits Version.V2) records.now }
+        ensures ok { IfOk result (λ file. (file.stopped ≡ false) × (file.version ≡ Version.V2) × (file.records ≡ records.now)
             × Only (D.state file.disk).seen (D.state file.disk).may_leave) }
         ensures steady { IsSteady (D.state disk) → MatchResult result
             (λ file. IsSteady (D.state file.disk))
             (λ e. (e.0 ≢ DiskFault.Failed) × IsSteady (D.state e.1)) }
         // A crash at any moment of the call leaves no record, or all of them.
         ensures any_moment { MatchResult result
-            (λ file. LeavesOnly (D.state disk) (D.state file.disk) (IsNoneOrAll Version.V1 records.now))
-            (λ e. LeavesOnly (D.state disk) (D.state e.1) (IsNoneOrAll Version.V1 records.now)) }
+            (λ file. LeavesOnly (D.state disk) (D.state file.disk) (IsNoneOrAll Version.V2 records.now))
+            (λ e. LeavesOnly (D.state disk) (D.state e.1) (IsNoneOrAll Version.V2 records.now)) }
         ensures memory { IfErr result (λ e. e.0 ≡ DiskFault.Memory → IsUntouched (D.state disk) (D.state e.1)) }
         ensures failed { MatchResult result
             (λ file. (D.state disk).failures ≤ (D.state file.disk).failures)
@@ -288,6 +289,13 @@ impl<D: Disk> RecordFile<D> {
         let bytes = self.disk.read(alloc)?;
         let (_, records, _) = read_file(alloc, bytes)?;
         Ok(records)
+    }
+
+    /// How its records are spelled.
+    pub fn version(&self) -> Version
+        ensures { result ≡ self.now.version }
+    {
+        self.version
     }
 
     /// Whether it takes no record until it is opened again.

@@ -3,6 +3,7 @@ ghost use Rattle.std.specs.Prelude.{◌≡◌, List, [], ◌∷◌, ◌++◌};
 ghost use Rattle.std.specs.Borrow.{ftrue};
 ghost use Rattle.disk.specs.History.{Event, event_of};
 
+use crate::image::Image;
 use std::marker::{Model, PhantomData};
 
 /// The calls of a disk, the newest first.
@@ -28,6 +29,16 @@ impl History {
     /// Notes a call: whether it failed, 1 or 0, and what the disk held before it.
     pub(crate) fn note(&mut self, _failed: &[u64], _bytes: &[u8])
         ensures { self.new.events ≡ event_of _failed.now _bytes.now ∷ self.old.events }
+    {}
+
+    /// As `note` of what a disk in memory reads.
+    pub(crate) fn note_seen(&mut self, _failed: &[u64], _held: &Image)
+        ensures { self.new.events ≡ event_of _failed.now _held.now.seen ∷ self.old.events }
+    {}
+
+    /// Notes a call that did not fail, and what the last sync of a disk in memory has made sure of.
+    pub(crate) fn note_synced(&mut self, _held: &Image)
+        ensures { self.new.events ≡ (0, _held.now.synced) ∷ self.old.events }
     {}
 
     /// Notes a call that did not fail, and what the disk held before it, in three parts.

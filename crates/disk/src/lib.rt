@@ -15,6 +15,7 @@ mod device;
 mod fault;
 mod fault_disk;
 mod file;
+mod flat;
 mod history;
 mod image;
 mod laws;

@@ -6,6 +6,7 @@ ghost use Rattle.disk.specs.Stopping.{IsDue};
 use crate::device::{Disk, DiskFault};
 use crate::history::History;
 use crate::image::Image;
+use blocks::Woven;
 use std::alloc::{AllocError, Global};
 
 /// A plan: a disk stops at one of its next calls.
@@ -18,7 +19,8 @@ pub struct Stop {
 }
 
 /// A disk in memory, for tests and simulations. A write and a sync cost what was written, and its memory is linear
-/// in its length. A crash leaves what is there, or what the last sync has made sure of.
+/// in its length. Long pieces that are written at its end by `write_woven` are shared, and not copied. A crash leaves what is there, or
+/// what the last sync has made sure of.
 pub struct MemDisk {
     image: Image,
     stop: Option<Stop>,
@@ -154,16 +156,35 @@ impl Disk for MemDisk {
     fn write_at(&mut self, at: usize, bytes: &[u8]) -> Result<(), DiskFault> {
         match due(&mut self.stop) {
             None => {
-                self.history.note(&[0], self.image.bytes());
+                self.history.note_seen(&[0], &self.image);
                 Ok(self.image.overwrite(at, bytes)?)
             }
             Some(true) => {
-                self.history.note(&[1], self.image.bytes());
+                self.history.note_seen(&[1], &self.image);
                 self.image.overwrite(at, bytes)?;
                 Err(DiskFault::Failed)
             }
             Some(false) => {
-                self.history.note(&[1], self.image.bytes());
+                self.history.note_seen(&[1], &self.image);
+                self.image.forget();
+                Err(DiskFault::Failed)
+            }
+        }
+    }
+
+    fn write_woven(&mut self, at: usize, bytes: &mut Woven) -> Result<(), DiskFault> {
+        match due(&mut self.stop) {
+            None => {
+                self.history.note_seen(&[0], &self.image);
+                Ok(self.image.put_woven(at, bytes)?)
+            }
+            Some(true) => {
+                self.history.note_seen(&[1], &self.image);
+                self.image.put_woven(at, bytes)?;
+                Err(DiskFault::Failed)
+            }
+            Some(false) => {
+                self.history.note_seen(&[1], &self.image);
                 self.image.forget();
                 Err(DiskFault::Failed)
             }
@@ -173,17 +194,16 @@ impl Disk for MemDisk {
     fn sync(&mut self) -> Result<(), DiskFault> {
         match due(&mut self.stop) {
             None => {
-                let (front, middle, back) = self.image.synced();
-                self.history.note_parts(front, middle, back);
+                self.history.note_synced(&self.image);
                 self.image.sync();
                 Ok(())
             }
             Some(true) => {
-                self.history.note(&[1], self.image.bytes());
+                self.history.note_seen(&[1], &self.image);
                 Err(DiskFault::Failed)
             }
             Some(false) => {
-                self.history.note(&[1], self.image.bytes());
+                self.history.note_seen(&[1], &self.image);
                 self.image.forget();
                 Err(DiskFault::Failed)
             }

@@ -4,8 +4,8 @@ ghost use Rattle.disk.specs.Disk.{Only};
 ghost use Rattle.disk.specs.RealFile.{file_state, IsNew, IsExact};
 
 use crate::device::{Disk, DiskFault};
+use crate::flat::FlatImage;
 use crate::history::History;
-use crate::image::Image;
 use std::alloc::{AllocError, Global};
 use std::fs::OpenFile;
 use std::io::Read;
@@ -32,7 +32,7 @@ static ZEROS: [u8; STEP] = [0; STEP];
 /// ends before them. Under a disk from `create` the file grows by what is written alone, and has no such zeros.
 #[derive(Drop)]
 pub struct FileDisk<F = fs::File> {
-    image: Image,
+    image: FlatImage,
     file: F,
     // so many bytes the file has, unless it is broken
     size: usize,
@@ -116,7 +116,7 @@ impl FileDisk {
     {
         let file = new_file(rt, path)?;
         Ok(FileDisk {
-            image: Image::new(rt.alloc()),
+            image: FlatImage::new(rt.alloc()),
             file,
             size: 0,
             ahead: false,
@@ -147,7 +147,7 @@ impl<F: FileExt + OpenFile> FileDisk<F> {
         }
         let size = bytes.len();
         Ok(FileDisk {
-            image: Image::of(alloc, bytes),
+            image: FlatImage::of(alloc, bytes),
             file,
             size,
             ahead: true,

@@ -105,7 +105,8 @@ impl Undo {
     /// Puts its bytes back where they stood.
     pub(crate) fn put_back(&self, held: &mut Vec<u8>)
         requires { self.now.at + length self.now.bytes.items ≤ length held.old.items }
-        ensures { Holds held.old.items self.now.at self.now.bytes.items held.new.items }
+        ensures bytes { Holds held.old.items self.now.at self.now.bytes.items held.new.items }
+        ensures room { vec_capacity held.new ≡ vec_capacity held.old }
     {
         put_over(held, self.at, &self.bytes);
     }

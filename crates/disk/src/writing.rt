@@ -9,6 +9,7 @@ ghost use Rattle.disk.specs.File.{header, IsOpen, IsNoneOrAll, HasNoRecord};
 use crate::device::{Disk, DiskFault};
 use crate::text::opened_text;
 use block_types::{Record, Version};
+use blocks::Woven;
 use std::alloc::Global;
 
 fn empty_file(version: Version) -> [u8; 5]
@@ -63,6 +64,23 @@ pub(crate) fn put_records<D: Disk>(end: usize, text: &[u8], disk: &mut D) -> Res
     ensures { PutsBytes (D.state disk.old) (D.state disk.new) end text.now result }
 {
     disk.write_at(end + 1, text)?;
+    disk.sync()?;
+    disk.write_at(end, &[1])?;
+    disk.sync()
+}
+
+/// As `put_records` of the same bytes, which the disk may take over.
+pub(crate) fn put_woven<D: Disk>(
+    end: usize,
+    text: &mut Woven,
+    disk: &mut D,
+) -> Result<(), DiskFault>
+    requires within { end < length (D.state disk.old).seen }
+    requires bound { end < 2 ^ 63 }
+    requires room { HasRoom (D.state disk.old) 4 (end + 1 + length text.old.bytes) }
+    ensures { PutsBytes (D.state disk.old) (D.state disk.new) end text.old.bytes result }
+{
+    disk.write_woven(end + 1, text)?;
     disk.sync()?;
     disk.write_at(end, &[1])?;
     disk.sync()

@@ -1,5 +1,5 @@
 //! An append at its primary.
-ghost use Rattle.std.specs.Prelude.{◌≡◌, ◌<◌, false, true};
+ghost use Rattle.std.specs.Prelude.{◌≡◌, ◌<◌, IfOk, false, true};
 ghost use Rattle.std.specs.Option.{IfNone};
 ghost use Rattle.block_types.specs.Limits.{IsGroup};
 ghost use Rattle.replica.specs.Groups.{text_length};
@@ -9,10 +9,10 @@ ghost use Rattle.enode_rules.specs.Performs.{ReplicaPerforms};
 
 use crate::actors::generation_of;
 use crate::sending::{add_puts, fill, refuse};
-use block_types::MAX_BLOCKS;
+use block_types::{Group, MAX_BLOCKS, Version};
 use disk::{Disk, DiskFault, RecordFile};
 use enode_replica::{NodeReplica, is_open};
-use std::alloc::Global;
+use std::alloc::{AllocError, Global};
 use wire::{Blocks, ExtentId, Fence, Packet, Refusal, ReqNo, Step};
 
 /// Why an append is not taken, the first reason.
@@ -78,6 +78,18 @@ pub(crate) fn append<D: Disk>(
     }
 }
 
+/// The group of these blocks, with their digests where a record of the version spells them.
+fn group_of(alloc: Global, version: Version, blocks: &Blocks) -> Result<Group, AllocError>
+    requires { IsGroup blocks.now }
+    ensures { IfOk result (λ group. group ≡ blocks.now) }
+{
+    let group = blocks.group()?;
+    match version {
+        Version::V1 => Ok(group),
+        Version::V2 => group.with_digests(alloc),
+    }
+}
+
 // The packets are made before the record, since that may want memory.
 fn append_taken<D: Disk>(
     hosted: &mut NodeReplica,
@@ -97,8 +109,8 @@ fn append_taken<D: Disk>(
     requires room { text_length hosted.old.content.groups < hosted.old.content.target }
     ensures { ReplicaPerforms D.state hosted.old hosted.new file.old file.new (append_taken node hosted.old packet.now extent blocks.now request) (told result step.new) }
 {
-    // One list for the packets, the record and what waits.
-    let group = blocks.group()?;
+    // One list for the packets, the record and what waits, and one list of digests.
+    let group = group_of(alloc, file.version(), blocks)?;
     let replica = hosted.replica();
     add_puts(node, replica.places(), extent, replica.len(), &group, step)?;
     match hosted.append(alloc, file, extent, group, packet.from, request) {

@@ -26,6 +26,7 @@ ghost use Rattle.laws_server_runs.specs.OwnKeys.{IsAtLineWithin};
 ghost use Rattle.laws_clusters.specs.Leases.{Lease, lease_in, KeepsTo};
 ghost use Rattle.laws_clusters.specs.Orders.{ComesOfStreams};
 ghost use Rattle.laws_clusters.specs.ServerEvents.{events_of_run, servers_of_run};
+ghost use Rattle.laws_clusters.specs.Timely.{AreApart, AreTimely, ServesAlone, HoldsAlone};
 ghost use Rattle.laws_servers.specs.Sending.{ByMoves, MaySendAll};
 
 /// A server sends nothing but what servers may ask of nodes and of the manager, and what no node takes. Of loaded tables it
@@ -54,7 +55,8 @@ pub fn runs_are_moves()
 /// and whoever is assigned one, all that is shown of an extent agrees (`agree`), and what is acknowledged is kept where it was
 /// acknowledged (`kept`). Where no two ranges are merged what is observed is honest, whatever ranges are split: each table that is shown is
 /// also that of a line of transactions, within the keys that the splits left to its range, and the line has every one that was
-/// acknowledged under a lower generation of the range or of one that it was split from, in order, each once (`honest`). There the servers
+/// acknowledged under a lower generation of the range or of one that it was split from, in order, each once; and each Get that is answered
+/// shows what is stored under its key after every transaction that was acknowledged so far, under whatever generation (`honest`). There the servers
 /// are those that what comes to them makes, and the streams that they see keep their order; the streams of a range that a split built of
 /// another's have of these what was done by then, and each append that they answer, by then or later, up to the generation that the split
 /// named, at its place and before all that was appended to them alone (`ordered`). So the laws of servers over any streams are laws of
@@ -88,11 +90,23 @@ pub fn runs_are_honest()
 
 /// The map keeps to each lease that it told a server of, by an assignment or a renewal, whatever comes, splits and merges of ranges and
 /// stops of the map among it: while the map has the range, its entry has the lease's generation and end or above; under the lease's own
-/// generation that server holds it; and where another server holds it, or none, the lease has ended.
+/// generation that server holds it; and where another server holds it, or none, the lease has ended (`kept`). So of two leases of a
+/// range that it told under two generations both are of one server, or the lower one has ended (`apart`). There is one clock: each server
+/// that runs sees the last moment, also one that was started anew, and each range that it holds it holds under a lease that the map told
+/// it, to that lease's end (`timely`). So while the lease lasts of a range whose streams were told to the server that holds it, nobody
+/// has loaded the range under a higher generation (`alone`); and no two servers hold one range within their leases (`held_once`).
 pub fn leases_are_kept()
-    ensures { (nodes servers target batch : ℕ) (events : List Event) → (to : ActorId) (body : Body) →
+    ensures kept { (nodes servers target batch : ℕ) (events : List Event) → (to : ActorId) (body : Body) →
         Contains (cluster_after_all (first_cluster nodes servers target batch) events).stream_layer.post (packet Map to body) →
         (lease : Lease) → lease_in to body ≡ Some lease → (x : RangeEntry) →
         range_at (cluster_after_all (first_cluster nodes servers target batch) events).map.ranges lease.range ≡ Some x →
         KeepsTo lease (cluster_after_all (first_cluster nodes servers target batch) events).now x.generation x.until x.holder }
+    ensures apart { (nodes servers target batch : ℕ) (events : List Event) →
+        AreApart (cluster_after_all (first_cluster nodes servers target batch) events) }
+    ensures timely { (nodes servers target batch : ℕ) (events : List Event) →
+        AreTimely (cluster_after_all (first_cluster nodes servers target batch) events) }
+    ensures alone { (nodes servers target batch : ℕ) (events : List Event) →
+        ServesAlone (cluster_after_all (first_cluster nodes servers target batch) events) }
+    ensures held_once { (nodes servers target batch : ℕ) (events : List Event) →
+        HoldsAlone (cluster_after_all (first_cluster nodes servers target batch) events) }
 {}

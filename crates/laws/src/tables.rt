@@ -17,11 +17,13 @@ ghost use Rattle.laws_tables.specs.Built.{KeepsSource};
 ghost use Rattle.laws_tables.specs.Ends.{StandsBehind};
 ghost use Rattle.laws_tables.specs.Families.{HasNoBirth, IsFamily};
 ghost use Rattle.laws_tables.specs.Layers.{Layer};
+ghost use Rattle.laws_tables.specs.Reads.{AreReads, ReplaysAndServes};
 ghost use Rattle.laws_tables.specs.Runs.{Beginning, ChainReplays, IsBeginning, IsChainRun, KeepsKeys, Run, ShowsLayers, first_beginning, log_of, meta_of, seen};
 ghost use Rattle.laws_server_runs.specs.Answerers.{MapBook, AreAnswered, AllAreShown};
 ghost use Rattle.laws_server_runs.specs.BornRanges.{AllInOrder};
 ghost use Rattle.laws_server_runs.specs.FamilyMembers.{of_servers};
 ghost use Rattle.laws_server_runs.specs.OwnKeys.{IsAtLineWithin};
+ghost use Rattle.laws_server_runs.specs.Reads.{AllAnswer};
 
 /// Each load of a range shows the table after every transaction whose append was answered under an earlier generation, in order,
 /// each once, where the streams of its log and of its metadata keep their order, loads of the log end in the order of their
@@ -36,6 +38,11 @@ ghost use Rattle.laws_server_runs.specs.OwnKeys.{IsAtLineWithin};
 /// as they go on, and so do the parent's. The generation that split the parent had been loaded by then, all that it formed was
 /// answered, nothing is told of the parent under a higher one, and each load of the child has a higher one and the keys that the
 /// split left to it. Whatever the parent still shows late stands in the child's loads too.
+///
+/// Each Get that a family's ranges answer shows what is stored under its key in the table after every transaction that was
+/// acknowledged so far, in order, each once, and what each load of a higher generation shows goes on from there (`reads`). Premised is
+/// that it is answered at a moment of its range's own run at which nothing has been told of the range under a higher generation, nor
+/// of a range that splits made of it, and that it shows the table of the line which its generation has come to by then.
 pub fn tables_replay()
     ensures chain { (layer_at : Place → Layer) (b : Beginning) (rows : ℕ → List Row) (run : Run) (order : KeepsOrder (log_of run)) →
         IsBeginning layer_at b → IsChainRun layer_at b run → ShowsLayers layer_at b rows run → EndsRise (log_of run) → StandsBehind b.place (log_of run) order
@@ -44,6 +51,7 @@ pub fn tables_replay()
         → ShowsLayers layer_at first_beginning rows run → KeepsOrder (log_of run) → EndsRise (log_of run) → KeepsOrder (meta_of run)
         → table_notes h ≡ seen first_beginning rows first_range run → Replays h }
     ensures families { (layer_at : Place → Layer) (h : List Note) → IsFamily layer_at h → Replays h }
+    ensures reads { (layer_at : Place → Layer) (h : List Note) (family : IsFamily layer_at h) → AreReads layer_at h family → ReplaysAndServes h }
 {}
 
 /// Whatever comes to servers that merge no ranges, from whomever and however often, wherever they stop, start, give up, make checkpoints or split
@@ -53,7 +61,8 @@ pub fn tables_replay()
 /// anything is observed is the first, or one that a split made which the map shows, and loads that it shares with the range that was
 /// split are loads of the same copies. Each range that is served, whatever split made it, then has the keys that the splits left to it,
 /// and its tables, its indexes among them, are at any moment within them the table of the line that ends at its log position
-/// (`children`).
+/// (`children`). And each Get that a server answers shows the table of that line as it is when it is answered: the server serves the range
+/// then, under the generation that is shown, no split or merge has paused it, its lease has not ended, and the key is one of its own (`reads`).
 ///
 /// Of one range alone less is premised. Where the map assigns only the first range, whose number it gives to neither of the two that a
 /// split makes, and whose streams are built of no other's, what servers load of it replays, whatever comes of other streams (`first`). The
@@ -69,6 +78,8 @@ pub fn servers_replay()
         AreUnborn first_range events → HasNoBirth first_range notes → AllAreShown b texts batch servers events notes order →
         (s range : ℕ) (r : RangeState) → ServesAt (run_of batch servers events) s range r → (log : KeepsOrder ((run_of batch servers events).story (log_name range))) →
         IsAtLineWithin texts (keys_of notes range) ((run_of batch servers events).story (log_name range)) log.copies r }
+    ensures reads { (batch servers : ℕ) (texts : ℕ → Bytes) (b : MapBook) (events : List ServerEvent) → AreAnswered b batch servers events →
+        AllInOrder texts batch servers events → AllAnswer batch servers events }
     ensures first { (batch servers : ℕ) (texts : ℕ → Bytes) (events : List ServerEvent) (notes : List Note) → AreUnborn first_range events → AreFirst events →
         StreamsInOrder texts first_range (run_of batch servers events) →
         AreSeenAs texts (run_of batch servers events).notes (table_notes notes) → Replays notes }

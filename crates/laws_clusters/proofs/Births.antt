@@ -93,6 +93,7 @@ module _ (m n : MapState) (new : List Note) (on : (range : ℕ) → IsSettled m 
   births_more now (notes.Seen e node offset bytes ∷ h) b = births_more now h b
   births_more now (notes.Began range generation number changes ∷ h) b = births_more now h b
   births_more now (notes.Done range generation number ∷ h) b = births_more now h b
+  births_more now (notes.Got range generation key value ∷ h) b = births_more now h b
   births_more now (notes.Loaded range generation rows next ∷ h) b = births_more now h b
 
 -- ---- what that means of the children of a split
@@ -107,6 +108,7 @@ birth_at m (notes.Content e node groups ∷ before) later parent low high key b 
 birth_at m (notes.Seen e node offset bytes ∷ before) later parent low high key b = birth_at m before later parent low high key b
 birth_at m (notes.Began range generation number changes ∷ before) later parent low high key b = birth_at m before later parent low high key b
 birth_at m (notes.Done range generation number ∷ before) later parent low high key b = birth_at m before later parent low high key b
+birth_at m (notes.Got range generation asked value ∷ before) later parent low high key b = birth_at m before later parent low high key b
 birth_at m (notes.Loaded range generation rows next ∷ before) later parent low high key b = birth_at m before later parent low high key b
 
 -- Both are children of the range.
@@ -396,6 +398,7 @@ noted_births m (n ∷ more) seen b = noted_births m more (seen ++ note_told seen
     one : (n : TableNote) → HasBirths m (table_notes (seen ++ note_told seen n ∷ []))
     one (tables.Began range generation number changes) = subst (HasBirths m) (sym (others-append seen _)) (makes_none m _ (table_notes seen) (λ range. (refl, tt)) tt b)
     one (tables.Done range generation number) = subst (HasBirths m) (sym (others-append seen _)) (makes_none m _ (table_notes seen) (λ range. (refl, tt)) tt b)
+    one (tables.Got range generation key value) = subst (HasBirths m) (sym (others-append seen _)) (makes_none m _ (table_notes seen) (λ range. (refl, tt)) tt b)
     one (tables.Loaded range generation table next) = subst (HasBirths m) (sym (others-append seen _)) (makes_none m _ (table_notes seen) (λ range. (refl, tt)) tt b)
 
 servers_birth : (c : Cluster) (o : ServersOutcome) → Births c → Births (servers_perform c o)

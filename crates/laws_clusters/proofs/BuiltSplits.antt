@@ -65,6 +65,7 @@ split_on w v on (notes.Split parent low high key) s = (on low s.0, on high s.1)
 split_on w v on (notes.Merged left right range) s = tt
 split_on w v on (notes.Began range generation number changes) s = tt
 split_on w v on (notes.Done range generation number) s = tt
+split_on w v on (notes.Got range generation key value) s = tt
 split_on w v on (notes.Loaded range generation rows next) s = tt
 split_on w v on (notes.Acked e offset group) s = tt
 split_on w v on (notes.SealedAt e length) s = tt
@@ -174,6 +175,7 @@ module _ (P : Note → Type 0) (served : (old : List Note) (note : TableNote) �
           by : (n : TableNote) → Each P (table_notes (note_told old n ∷ []))
           by (tables.Began range generation number changes) = (served old (tables.Began range generation number changes), tt)
           by (tables.Done range generation number) = (served old (tables.Done range generation number), tt)
+          by (tables.Got range generation key value) = (served old (tables.Got range generation key value), tt)
           by (tables.Loaded range generation table next) = (served old (tables.Loaded range generation table next), tt)
 
   module _ (c : Cluster) (all : All c) where
@@ -286,6 +288,7 @@ module _ (nodes servers target batch : ℕ) where
       served : (w : StreamSystem) (old : List Note) (note : TableNote) → SplitHas w (note_told old note)
       served w old (tables.Began range generation number changes) = tt
       served w old (tables.Done range generation number) = tt
+      served w old (tables.Got range generation key value) = tt
       served w old (tables.Loaded range generation table next) = tt
 
   first_built : AreBuilt first

@@ -1,5 +1,5 @@
 -- Each incarnation knows no more extents of its stream than there are, and asks for appends to these alone.
-use Rattle.std.proofs.Common.{◌≡◌, ◌⊎◌, ℕ, zero, suc, ◌+◌, ◌≤◌, ◌<◌, List, ◌∷◌, [], length, Bool, true, false, Option, Some, None, refl, sym, ap, subst, ⊎_elim, arith, if◌then◌else◌, ◌==◌}
+use Rattle.std.proofs.Common.{◌≡◌, ℕ, zero, suc, ◌+◌, ◌≤◌, ◌<◌, List, ◌∷◌, [], length, Bool, true, false, Option, Some, None, refl, sym, ap, subst, ⊎_elim, arith, if◌then◌else◌, ◌==◌}
 use Rattle.std.proofs.lemmas.Bool.{eqb-true}
 use Rattle.replica.specs.Groups.{Group}
 use Rattle.model_histories.specs.StreamMachine.{In, OpenExtent, one_if_live, count, Fact, AsksOpen, Opened as OpenedAs, AsksCheck, Checked, AsksConfirm, Confirmed, Serves, Begun, AsksAppend, Appended, AsksExtend, Extended, MachineState, MachineStep, TakesOpen, TakesExtend, TakesConfirm, TakesCheck, AnswersCheck, AnswersLate, TakesAppend, Keeps, AnswersAppend, Seals, Opens, Checks, ReadsSealed, ReadsChecked, Begins, Appends, Extends, TakesConfirmed, TakesAppended, with_live, new_live, extended, extend_facts, May, next}

@@ -1,5 +1,6 @@
 -- Each rule of the map keeps to all leases that were told, and to the one that it tells.
-use Rattle.std.proofs.Common.{◌≡◌, ℕ, zero, suc, ◌+◌, ◌≤◌, ◌<◌, ◌^◌, max, Bool, true, false, not, ◌&&◌, ◌||◌, ◌==◌, nat_lt, List, [], ◌∷◌, map, Option, Some, None, is_none, is_some, Contains, refl, sym, ap, ◌∙◌, subst, arith}
+use Rattle.std.proofs.Common.{◌≡◌, ℕ, zero, suc, ◌+◌, ◌≤◌, ◌<◌, ◌^◌, max, Bool, true, false, not, ◌&&◌, ◌||◌, ◌==◌, nat_lt, List, [], ◌∷◌, map, Option, Some, None, is_none, is_some, Contains, refl, sym, ap, ◌∙◌, subst, inl, arith}
+use Rattle.std.specs.Prelude.{option_map}
 use Rattle.std.proofs.lemmas.Bool.{eqb-true, eqb-false}
 use Rattle.std.proofs.lemmas.Bool.Decides.{nat_tests}
 use Rattle.std.proofs.lemmas.Option.{same_Some}
@@ -24,17 +25,25 @@ use Rattle.model_partition.specs.Map.{MapState, range_at, range_of_key, changed_
 use Rattle.model_partition.specs.MapRules.{is_holder, is_other, assign_fault, assign_rule, renew_fault, renew_rule, has_numbers, begin_split_fault, begin_split_taken, begin_split_rule, is_split, complete_split_fault, complete_split_taken, complete_split_rule, is_beside, is_same_holder, begin_merge_fault, begin_merge_taken, begin_merge_rule, complete_merge_fault, complete_merge_rule, route_rule, called, told, map_rule}
 use Rattle.model_partition.specs.Partition.{one_if, uses_pending, IsSound}
 use Rattle.model_partition.specs.Replay.{may_assign, may_renew, may_begin_split, may_complete_split, may_begin_merge}
-use Rattle.model_partition.proofs.Numbers.{used_once}
+use Rattle.model_partition.proofs.Numbers.{used_once, kept, dropped, found_after}
 use Rattle.model_partition.proofs.Replaying.{after_sound}
 use Rattle.laws_streams.proofs.Choices.{Each, each-weaker}
 use Rattle.laws_clusters.specs.Leases.{Lease, lease_in, KeepsTo}
-use Rattle.laws_clusters.proofs.Leases.{EntryKeeps, MapKeeps, MayTake, each_map, only_entry, found_below, drops, assign_keeps, renew_keeps, begin_keeps, complete_split_keeps, complete_merge_keeps}
+use Rattle.laws_clusters.proofs.Leases.{EntryKeeps, MapKeeps, MayTake, each_map, entry_of, only_entry, found_below, drops, assign_keeps, renew_keeps, begin_keeps, complete_split_keeps, complete_merge_keeps}
 
--- what a rule leaves keeps to the leases that were kept to before it, and to those that it tells
+-- the entry of its range has its generation, and its server for a holder
+pub record IsOfEntry (m : MapState) (lease : Lease) : Type 0 where
+  pub entry : RangeEntry
+  pub found : range_at m.ranges lease.range ≡ Some entry
+  pub generation : entry.generation ≡ lease.generation
+  pub holder : entry.holder ≡ Some lease.server
+
+-- what a rule leaves keeps to the leases that were kept to before it, and to those that it tells, which are of their entries
 pub record RuleKeeps (now : ℕ) (m : MapState) (o : Outcome MapState) : Type 0 where
   pub sound : IsSound o.after
   pub kept : (lease : Lease) → MapKeeps lease now m → MapKeeps lease now o.after
   pub tells : (p : Packet) → Contains o.packets p → (lease : Lease) → lease_in p.to p.body ≡ Some lease → MapKeeps lease now o.after
+  pub entry : (p : Packet) → Contains o.packets p → (lease : Lease) → lease_in p.to p.body ≡ Some lease → IsOfEntry o.after lease
 
 -- ---- nothing changes
 
@@ -46,7 +55,12 @@ one_lease : (to : ActorId) (body : Body) (p : Packet) → Contains (packet Map t
 one_lease to body p there lease is = subst (λ (x : Packet). lease_in x.to x.body ≡ Some lease) (sym (only_one (packet Map to body) p there)) is
 
 silent_keeps : (now : ℕ) (m : MapState) → IsSound m → RuleKeeps now m (silent m)
-silent_keeps now m s = record { sound = s; kept = λ lease k. k; tells = λ p there lease is. absurd (let less = there.1 in omega (arith, less)) }
+silent_keeps now m s = record {
+  sound = s;
+  kept = λ lease k. k;
+  tells = λ p there lease is. absurd (let less = there.1 in omega (arith, less));
+  entry = λ p there lease is. absurd (let less = there.1 in omega (arith, less));
+}
 
 -- one packet is sent that tells of no lease
 one_keeps : (now : ℕ) (m : MapState) (to : ActorId) (body : Body) → lease_in to body ≡ None → IsSound m → RuleKeeps now m (sends m (packet Map to body ∷ []))
@@ -54,6 +68,7 @@ one_keeps now m to body none s = record {
   sound = s;
   kept = λ lease k. k;
   tells = λ p there lease is. absurd (let e : None ≡ Some lease = sym none ∙ one_lease to body p there lease is in cc);
+  entry = λ p there lease is. absurd (let e : None ≡ Some lease = sym none ∙ one_lease to body p there lease is in cc);
 }
 
 called_keeps : (now : ℕ) (m : MapState) (p : Packet) (q : ReqNo) (fault : Option Refusal) (o : Outcome MapState) → IsSound m → (fault ≡ None → RuleKeeps now m o) → RuleKeeps now m (called m p q fault o)
@@ -119,6 +134,30 @@ module _ (now : ℕ) (m : MapState) (s : IsSound m) (range server until : ℕ) (
         (each_map IsOnly IsAsX (dropped_if range) as_x m.ranges only);
   }
 
+  -- the entry has the lease that is told
+  abbrev HasLease : ℕ → RangeEntry → Type 0
+  HasLease generation r = r.range ≡ range → (r.generation ≡ generation) × (r.holder ≡ Some server)
+
+  of_entry : (rs : List RangeEntry) (generation end : ℕ) (y : RangeEntry) → Each (HasLease generation) rs → range_at rs range ≡ Some y → (next : ℕ) →
+      IsOfEntry (record { ranges = rs; next = next }) (record { server = server; range = range; generation = generation; until = end })
+  of_entry rs generation end y has found next =
+      let (h, number) = entry_of (HasLease generation) range rs y has found in
+      record { entry = y; found = found; generation = (h number).0; holder = (h number).1 }
+
+  assigned_of_entry : IsOfEntry (assign m range server until) assigned_lease
+  assigned_of_entry =
+      let takes = kept range (assigned server until) (record { number = λ r. refl; keys = λ r. refl; pending = λ r. inl refl }) in
+      of_entry (assign m range server until).ranges (suc x.generation) (max x.until until) (changed_if range (assigned server until) (dropped_if range x))
+      (each_map IsAsX (HasLease (suc x.generation)) (changed_if range (assigned server until)) has (map (dropped_if range) m.ranges)
+      (each_map IsOnly IsAsX (dropped_if range) as_x m.ranges only))
+      (found_after (changed_if range (assigned server until)) takes.number range (map (dropped_if range) m.ranges)
+      ∙ ap (option_map (changed_if range (assigned server until))) (found_after (dropped_if range) (dropped range).number range m.ranges ∙ ap (option_map (dropped_if range)) at)) m.next
+    where
+      has : (r : RangeEntry) → IsAsX r → HasLease (suc x.generation) (changed_if range (assigned server until) r)
+      has r h =
+          if_elim (HasLease (suc x.generation)) (r.range == range) (assigned server until r) r
+          (λ t e. (ap suc (h.1 e).0, refl)) (λ f e. absurd (other_range r f e))
+
   pub assign_taken_keeps : assign_fault server now (Some x) ≡ None → RuleKeeps now m (assign_rule m range server until (Some x))
   assign_taken_keeps free =
       if_elim (RuleKeeps now m) (nat_lt (suc x.generation) (2 ^ 64)) _ _
@@ -131,6 +170,9 @@ module _ (now : ℕ) (m : MapState) (s : IsSound m) (range server until : ℕ) (
         tells = λ p there lease is.
             subst (λ l. MapKeeps l now (assign m range server until))
             (same_Some assigned_lease lease (one_lease (Server server) (bodies.Map (maps.Assign range (suc x.generation) (max x.until until))) p there lease is)) new_assigned;
+        entry = λ p there lease is.
+            subst (IsOfEntry (assign m range server until))
+            (same_Some assigned_lease lease (one_lease (Server server) (bodies.Map (maps.Assign range (suc x.generation) (max x.until until))) p there lease is)) assigned_of_entry;
       })
       (λ f. silent_keeps now m s)
 
@@ -155,6 +197,17 @@ module _ (now : ℕ) (m : MapState) (s : IsSound m) (range server until : ℕ) (
       ))
       (λ f. (h.1, λ e. absurd (other_range r f e)))
 
+  renewed_of_entry : x.holder ≡ Some server → IsOfEntry (with_range m range (renewed until)) renewed_lease
+  renewed_of_entry held =
+      let longer = kept range (renewed until) (record { number = λ r. refl; keys = λ r. refl; pending = λ r. inl refl }) in
+      of_entry (with_range m range (renewed until)).ranges x.generation (max x.until until) (changed_if range (renewed until) x) (each_map IsOnly (HasLease x.generation) (changed_if range (renewed until)) has m.ranges only)
+      (found_after (changed_if range (renewed until)) longer.number range m.ranges ∙ ap (option_map (changed_if range (renewed until))) at) m.next
+    where
+      has : (r : RangeEntry) → IsOnly r → HasLease x.generation (changed_if range (renewed until) r)
+      has r h =
+          if_elim (HasLease x.generation) (r.range == range) (renewed until r) r
+          (λ t e. (ap (λ (y : RangeEntry). y.generation) (h.0 e), ap (λ (y : RangeEntry). y.holder) (h.0 e) ∙ held)) (λ f e. absurd (other_range r f e))
+
   pub renew_taken_keeps : renew_fault server (Some x) ≡ None → RuleKeeps now m (renew_rule m range server until (Some x))
   renew_taken_keeps free =
       let held : x.holder ≡ Some server = held_by x.holder (none_met ((NotOwner, not (is_holder x.holder server)) ∷ []) free).0 in
@@ -168,6 +221,9 @@ module _ (now : ℕ) (m : MapState) (s : IsSound m) (range server until : ℕ) (
               numbered = found_below m range x s.fresh at;
               entries = each_map IsOnly (EntryKeeps renewed_lease now) (changed_if range (renewed until)) (renewed_entry held) m.ranges only;
             });
+        entry = λ p there lease is.
+            subst (IsOfEntry (with_range m range (renewed until)))
+            (same_Some renewed_lease lease (one_lease (Server server) (bodies.Map (maps.Renew range x.generation (max x.until until))) p there lease is)) (renewed_of_entry held);
       }
 
 pub assign_rule_keeps : (now : ℕ) (m : MapState) (range server until : ℕ) (o : Option RangeEntry) → range_at m.ranges range ≡ o → assign_fault server now o ≡ None → IsSound m → RuleKeeps now m (assign_rule m range server until o)
@@ -192,6 +248,8 @@ module _ (now : ℕ) (m : MapState) (s : IsSound m) where
     sound = subst IsSound (sym is) sound;
     kept = λ lease k. subst (MapKeeps lease now) (sym is) (kept lease k);
     tells = λ p there lease e.
+        absurd (let z : None ≡ Some lease = sym none ∙ one_lease to (bodies.Map body) p (subst (λ ps. Contains ps p) packets there) lease e in cc);
+    entry = λ p there lease e.
         absurd (let z : None ≡ Some lease = sym none ∙ one_lease to (bodies.Map body) p (subst (λ ps. Contains ps p) packets there) lease e in cc);
   }
 

@@ -1,6 +1,6 @@
 -- Leases that the map told servers of: whatever the map does next, the range's entry keeps to them. Its generation and its end are the
 -- lease's or above; under the lease's generation the lease's server holds it; and another has it only once the lease has ended.
-use Rattle.std.proofs.Common.{◌≡◌, ℕ, suc, ◌+◌, ◌≤◌, ◌<◌, max, Bool, true, false, ◌||◌, ◌==◌, nat_lt, List, [], ◌∷◌, ◌++◌, map, Option, Some, None, refl, sym, ap, ◌∙◌, inl, inr, arith, if◌then◌else◌}
+use Rattle.std.proofs.Common.{◌≡◌, ℕ, suc, ◌+◌, ◌≤◌, ◌<◌, max, Bool, true, false, ◌||◌, ◌==◌, nat_lt, List, [], ◌∷◌, ◌++◌, map, Option, Some, None, refl, sym, ap, ◌∙◌, subst, inl, inr, arith, if◌then◌else◌}
 use Rattle.std.proofs.lemmas.Bool.{cases_eq, eqb-true}
 use Rattle.std.proofs.lemmas.Bool.Decides.{nat_tests}
 use Rattle.std.proofs.lemmas.Option.{same_Some}
@@ -56,6 +56,15 @@ found_used n (r ∷ rs) x at = by (r.range == n) at (λ is. found_used n rs x is
     by : (b : Bool) → (if b then Some r else range_at rs n) ≡ Some x → (range_at rs n ≡ Some x → 1 ≤ uses n rs) → 1 ≤ one_if b + uses_pending n r.pending + uses n rs
     by true is more = omega arith
     by false is more = let l = more is in omega (arith, l)
+
+-- what is so of each entry is so of the one of a number
+pub entry_of : (P : RangeEntry → Type 0) (range : ℕ) (rs : List RangeEntry) (x : RangeEntry) → Each P rs → range_at rs range ≡ Some x → P x × (x.range ≡ range)
+entry_of P range [] x each found = absurd cc
+entry_of P range (r ∷ rs) x each found = go (r.range == range) refl found (entry_of P range rs x each.1)
+  where
+    go : (b : Bool) → (r.range == range) ≡ b → (if b then Some r else range_at rs range) ≡ Some x → (range_at rs range ≡ Some x → P x × (x.range ≡ range)) → P x × (x.range ≡ range)
+    go true e is more = (let same : r ≡ x = cc in subst (λ (y : RangeEntry). P y × (y.range ≡ range)) same (each.0, eqb-true r.range range e))
+    go false e is more = more is
 
 -- where a number is used once, the entry that has it is the only one, and none of this number is to come
 pub only_entry : (n : ℕ) (rs : List RangeEntry) (x : RangeEntry) → uses n rs ≤ 1 → range_at rs n ≡ Some x → Each (λ (r : RangeEntry). (r.range ≡ n → r ≡ x) × (uses_pending n r.pending ≡ 0)) rs

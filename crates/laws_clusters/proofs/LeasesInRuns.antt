@@ -1,7 +1,8 @@
 -- In a run the map keeps to each lease that it told a server of, whatever happens.
-use Rattle.std.proofs.Common.{◌≡◌, ℕ, ◌≤◌, Bool, true, false, nat_lt, ◌==◌, List, [], ◌∷◌, ◌++◌, map, Option, Some, None, Contains, slice_get, refl, sym, ap, ◌∙◌, subst, inl, inr, arith, if◌then◌else◌, eqb-true}
+use Rattle.std.proofs.Common.{◌≡◌, ◌⊎◌, ℕ, ◌≤◌, Bool, nat_lt, ◌==◌, List, [], ◌∷◌, ◌++◌, map, Option, Some, None, Contains, slice_get, refl, sym, ap, ◌∙◌, subst, inl, inr, arith}
 use Rattle.std.proofs.lemmas.Bool.Decides.{nat_tests}
 use Rattle.std.proofs.lemmas.List.Elements.{Contains-append_cases}
+use Rattle.std.proofs.lemmas.Option.{same_Some}
 use Rattle.wire.specs.declared.actor.ActorId.{ActorId}
 use Rattle.wire.specs.declared.actor.ActorId.TheVariants.{Node, Manager, Map, Server, User}
 use Rattle.wire.specs.declared.body.Body.{Body}
@@ -23,8 +24,9 @@ use Rattle.laws_streams.proofs.Choices.{Each}
 use Rattle.laws_servers.specs.Sending.{AllFromServers}
 use Rattle.laws_servers.proofs.ServerSteps.{IsStill, server_takes_shows, server_gives_up_tidy, server_checkpoints_tidy, server_splits_tidy, server_merges_tidy, server_stops_still, server_starts_still}
 use Rattle.laws_clusters.specs.Leases.{Lease, lease_in, KeepsTo}
-use Rattle.laws_clusters.proofs.Leases.{EntryKeeps, MapKeeps}
-use Rattle.laws_clusters.proofs.LeaseRules.{RuleKeeps, assign_rule_keeps, renew_rule_keeps, map_rule_keeps}
+use Rattle.laws_clusters.specs.Timely.{IsTold, AreApart, AreOfOneServer}
+use Rattle.laws_clusters.proofs.Leases.{EntryKeeps, MapKeeps, entry_of}
+use Rattle.laws_clusters.proofs.LeaseRules.{IsOfEntry, RuleKeeps, assign_rule_keeps, renew_rule_keeps, map_rule_keeps}
 use Rattle.laws_clusters.proofs.Senders.{none_from_map}
 use Rattle.laws_clusters.proofs.StreamEvents.{happens_map}
 
@@ -32,9 +34,11 @@ use Rattle.laws_clusters.proofs.StreamEvents.{happens_map}
 abbrev Says : Cluster → ActorId → Body → Type 0
 Says c to body = Contains c.stream_layer.post (packet Map to body)
 
--- the map is sound, and keeps to each lease that it told
+-- the map is sound, and keeps to each lease that it told, of which two of a range are apart, or under one generation of one server
 pub record KeepsLeases (c : Cluster) : Type 0 where
   pub sound : IsSound c.map
+  pub apart : AreApart c
+  pub single : AreOfOneServer c
   pub kept : (to : ActorId) (body : Body) → Contains c.stream_layer.post (packet Map to body) → (lease : Lease) → lease_in to body ≡ Some lease → MapKeeps lease c.now c.map
 
 -- ---- later, and with nothing more from the map
@@ -57,8 +61,13 @@ keeps_later lease now later m on k = record { numbered = k.numbered; entries = a
 goes_on : (c d : Cluster) → d.map ≡ c.map → c.now ≤ d.now → ((to : ActorId) (body : Body) → Says d to body → Says c to body) → KeepsLeases c → KeepsLeases d
 goes_on c d same on says k = record {
   sound = subst IsSound (sym same) k.sound;
+  apart = λ low high a b range above differ. (let l = k.apart low high (before low a) (before high b) range above differ in omega (arith, l, on));
+  single = λ one other a b range under. k.single one other (before one a) (before other b) range under;
   kept = λ to body there lease is. subst (MapKeeps lease d.now) (sym same) (keeps_later lease c.now d.now c.map on (k.kept to body (says to body there) lease is));
 }
+  where
+    before : (lease : Lease) → IsTold d.stream_layer.post lease → IsTold c.stream_layer.post lease
+    before lease told = record { to = told.to; body = told.body; sent = says told.to told.body told.sent; tells = told.tells }
 
 -- ---- servers
 
@@ -79,16 +88,48 @@ still_keep c o still k = servers_keep c o (subst AllFromServers (sym still.0) tt
 -- it goes through a rule, of which these packets are sent
 rule_keeps : (c d : Cluster) (o : Outcome MapState) (packets : List Packet) → RuleKeeps c.now c.map o → d.map ≡ o.after → d.now ≡ c.now → d.stream_layer.post ≡ c.stream_layer.post ++ packets →
     ((p : Packet) → Contains packets p → Contains o.packets p) → KeepsLeases c → KeepsLeases d
-rule_keeps c d o packets rule after now post some k = record {
-  sound = subst IsSound (sym after) rule.sound;
-  kept = λ to body there lease is.
-      subst (λ (m : MapState). MapKeeps lease d.now m) (sym after)
-      (subst (λ (n : ℕ). MapKeeps lease n o.after) (sym now)
-      (elim (Contains-append_cases c.stream_layer.post packets (packet Map to body) (subst (λ ps. Contains ps (packet Map to body)) post there)) [
-        | inl old ↦ rule.kept lease (k.kept to body old lease is)
-        | inr sent ↦ rule.tells (packet Map to body) (some (packet Map to body) sent) lease is
-      ]));
-}
+rule_keeps c d o packets rule after now post some k = record { sound = subst IsSound (sym after) rule.sound; apart = apart; single = single; kept = kept }
+  where
+    -- it was told before, or now, and is that of its range's entry
+    told_cases : (lease : Lease) → IsTold d.stream_layer.post lease → IsTold c.stream_layer.post lease ⊎ IsOfEntry d.map lease
+    told_cases lease told = elim (Contains-append_cases c.stream_layer.post packets (packet Map told.to told.body) (subst (λ ps. Contains ps (packet Map told.to told.body)) post told.sent)) [
+      | inl old ↦ inl (record { to = told.to; body = told.body; sent = old; tells = told.tells })
+      | inr sent ↦ inr (subst (λ m. IsOfEntry m lease) (sym after) (rule.entry (packet Map told.to told.body) (some (packet Map told.to told.body) sent) lease told.tells))
+    ]
+
+    kept : (to : ActorId) (body : Body) → Says d to body → (lease : Lease) → lease_in to body ≡ Some lease → MapKeeps lease d.now d.map
+    kept to body there lease is =
+        subst (λ (m : MapState). MapKeeps lease d.now m) (sym after)
+        (subst (λ (n : ℕ). MapKeeps lease n o.after) (sym now)
+        (elim (Contains-append_cases c.stream_layer.post packets (packet Map to body) (subst (λ ps. Contains ps (packet Map to body)) post there)) [
+          | inl old ↦ rule.kept lease (k.kept to body old lease is)
+          | inr sent ↦ rule.tells (packet Map to body) (some (packet Map to body) sent) lease is
+        ]))
+
+    -- the entry of the other one's range keeps to a lease that was told
+    entry_keeps_to : (lease other : Lease) → IsTold d.stream_layer.post lease → (e : IsOfEntry d.map other) → lease.range ≡ other.range → KeepsTo lease d.now e.entry.generation e.entry.until e.entry.holder
+    entry_keeps_to lease other told e same =
+        let k = kept told.to told.body told.sent lease told.tells in
+        let (keeps, number) = entry_of (EntryKeeps lease d.now) other.range d.map.ranges e.entry k.entries e.found in
+        keeps.1 (number ∙ sym same)
+
+    apart : AreApart d
+    apart low high a b same above differ = elim (told_cases high b) [
+      | inr e ↦ (entry_keeps_to low high a e same).other (λ holds. differ (same_Some low.server high.server (sym holds ∙ e.holder)))
+      | inl old ↦ elim (told_cases low a) [
+        | inl also ↦ (let l = k.apart low high also old same above differ in omega (arith, l, now))
+        | inr e ↦ absurd (let l = (entry_keeps_to high low b e (sym same)).generation_above in let g = e.generation in omega (arith, l, g, above))
+      ]
+    ]
+
+    single : AreOfOneServer d
+    single one other a b same under = elim (told_cases other b) [
+      | inr e ↦ same_Some one.server other.server (sym ((entry_keeps_to one other a e same).same (under ∙ sym e.generation)) ∙ e.holder)
+      | inl old ↦ elim (told_cases one a) [
+        | inl also ↦ k.single one other also old same under
+        | inr e ↦ same_Some one.server other.server (sym e.holder ∙ (entry_keeps_to other one b e (sym same)).same (sym under ∙ sym e.generation))
+      ]
+    ]
 
 -- another cell of the map
 cell_keeps : (c : Cluster) (cell : ActorCell) → KeepsLeases c → KeepsLeases (record c { map_cell = cell })
@@ -190,17 +231,15 @@ all_keep (event ∷ events) c k = all_keep events (cluster_after c event) (comes
 
 pub run_keeps_leases : (nodes servers target batch : ℕ) (events : List Event) → KeepsLeases (cluster_after_all (first_cluster nodes servers target batch) events)
 run_keeps_leases nodes servers target batch events =
-    all_keep events (first_cluster nodes servers target batch) (record { sound = first_sound; kept = λ to body there lease is. absurd (let less = there.1 in omega (arith, less)) })
+    all_keep events (first_cluster nodes servers target batch)
+    (record {
+      sound = first_sound;
+      apart = λ low high a b same above differ. absurd (let less = a.sent.1 in omega (arith, less));
+      single = λ one other a b same under. absurd (let less = a.sent.1 in omega (arith, less));
+      kept = λ to body there lease is. absurd (let less = there.1 in omega (arith, less));
+    })
 
 -- ---- what that means of the entry of a range
-
-entry_of : (P : RangeEntry → Type 0) (range : ℕ) (rs : List RangeEntry) (x : RangeEntry) → Each P rs → range_at rs range ≡ Some x → P x × (x.range ≡ range)
-entry_of P range [] x each found = absurd cc
-entry_of P range (r ∷ rs) x each found = go (r.range == range) refl found (entry_of P range rs x each.1)
-  where
-    go : (b : Bool) → (r.range == range) ≡ b → (if b then Some r else range_at rs range) ≡ Some x → (range_at rs range ≡ Some x → P x × (x.range ≡ range)) → P x × (x.range ≡ range)
-    go true e is more = (let same : r ≡ x = cc in subst (λ (y : RangeEntry). P y × (y.range ≡ range)) same (each.0, eqb-true r.range range e))
-    go false e is more = more is
 
 -- Each lease that the map told has an end and a generation that are at most those of the range's entry; under the entry's generation it
 -- was told to the entry's holder; and where another holds the range now, or nobody, the lease has ended.

@@ -110,5 +110,15 @@ pub mod ToldRanges
 pub mod UntoldRanges
 pub mod BareRanges
 pub mod SplitRuns
-pub mod SplitReplays
+pub mod RunMembers
+pub mod MergeLoads
+pub mod HeldRanges
+pub mod LeasedRanges
+pub mod LoadsElsewhere
+pub mod Moments
+pub mod ServesAlone
+pub mod GotSteps
+pub mod ReadMoments
+pub mod ReadsAlone
+pub mod ReadRanges
 pub mod Theorem

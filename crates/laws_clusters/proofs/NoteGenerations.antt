@@ -45,14 +45,15 @@ held_by_names K c n s cell st at is k r found =
 pub noted_weaker : (P Q : ℕ → ℕ → Type 0) (h : List Note) → ((r g : ℕ) → P r g → Q r g) → AllNoted P h → AllNoted Q h
 noted_weaker P Q h f all note r there is = f r (generation_of note) (all note r there is)
 
-only_note : (a note : Note) → Contains (a ∷ []) note → a ≡ note
+pub only_note : (a note : Note) → Contains (a ∷ []) note → a ≡ note
 only_note a note there = each_has (λ (y : Note). a ≡ y) (a ∷ []) note (refl, tt) there
 
 -- what a server shows is of tables
-told_last : (seen : List Note) (n : TableNote) → table_notes (seen ++ told seen n ∷ []) ≡ table_notes seen ++ told seen n ∷ []
+pub told_last : (seen : List Note) (n : TableNote) → table_notes (seen ++ told seen n ∷ []) ≡ table_notes seen ++ told seen n ∷ []
 told_last seen (tables.Began range generation number changes) = others-append seen _
 told_last seen (tables.Done range generation number) = others-append seen _
 told_last seen (tables.Loaded range generation table next) = others-append seen _
+told_last seen (tables.Got range generation key value) = others-append seen _
 
 module _ (P : ℕ → ℕ → Type 0) where
   one_more : (h : List Note) (note : Note) → AllNoted P h → ((r : ℕ) → is_of r note ≡ true → P r (generation_of note)) → AllNoted P (h ++ note ∷ [])
@@ -68,6 +69,7 @@ module _ (P : ℕ → ℕ → Type 0) where
   told_under k g placed seen (tables.Began range generation number changes) within p r is = under k g r generation range p is within.0 within.1
   told_under k g placed seen (tables.Done range generation number) within p r is = under k g r generation range p is within.0 within.1
   told_under k g placed seen (tables.Loaded range generation table next) within p r is = under k g r generation range p is within.0 within.1
+  told_under k g placed seen (tables.Got range generation key value) within p r is = absurd cc
 
   all_under : (k g : ℕ) (placed : List PlacedBytes) (shown : List TableNote) (seen : List Note) → NotesWithin k g placed shown → P k g → AllNoted P (table_notes seen) → AllNoted P (table_notes (noted seen shown))
   all_under k g placed [] seen within p all = all
@@ -101,6 +103,7 @@ module _ (range low high : ℕ) (key : List ℕ) where
   none_told seen (tables.Began k generation number changes) e = cc
   none_told seen (tables.Done k generation number) e = cc
   none_told seen (tables.Loaded k generation table next) e = cc
+  none_told seen (tables.Got k generation key value) e = cc
 
   none_of_servers : (shown : List TableNote) (seen : List Note) → Contains (table_notes (noted seen shown)) split → Contains (table_notes seen) split
   none_of_servers [] seen there = there

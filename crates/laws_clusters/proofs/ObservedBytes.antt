@@ -190,21 +190,25 @@ module _ (texts : ℕ → Bytes) where
   tables_behind placed [] shown laid = laid
   tables_behind placed (tables.Began range generation number changes ∷ before) shown laid = tables_behind placed before shown laid
   tables_behind placed (tables.Done range generation number ∷ before) shown laid = tables_behind placed before shown laid
+  tables_behind placed (tables.Got range generation key value ∷ before) shown laid = tables_behind placed before shown laid
   tables_behind placed (tables.Loaded range generation table next ∷ before) shown laid = tables_behind placed before shown laid.1
 
   seen_now : (seen : List Note) (placed : ℕ → List PlacedBytes) (n : TableNote) → AllTellRightly texts seen → ((range : ℕ) → AreObserved seen (placed range)) → TablesWithin texts placed (n ∷ []) → IsSeenAs texts n (told seen n)
   seen_now seen placed (tables.Began range generation number changes) all are laid = refl
   seen_now seen placed (tables.Done range generation number) all are laid = refl
+  seen_now seen placed (tables.Got range generation key value) all are laid = refl
   seen_now seen placed (tables.Loaded range generation table next) all are laid = (rows_of seen table, refl, table_seen seen (placed range) table all (are range) laid.0)
 
   table_told : (seen : List Note) (n : TableNote) → server_notes (seen ++ told seen n ∷ []) ≡ server_notes seen ++ told seen n ∷ []
   table_told seen (tables.Began range generation number changes) = served-append seen _
   table_told seen (tables.Done range generation number) = served-append seen _
+  table_told seen (tables.Got range generation key value) = served-append seen _
   table_told seen (tables.Loaded range generation table next) = served-append seen _
 
   tables_first : (placed : ℕ → List PlacedBytes) (n : TableNote) (shown : List TableNote) → TablesWithin texts placed (n ∷ shown) → TablesWithin texts placed (n ∷ []) × TablesWithin texts placed shown
   tables_first placed (tables.Began range generation number changes) shown laid = (tt, laid)
   tables_first placed (tables.Done range generation number) shown laid = (tt, laid)
+  tables_first placed (tables.Got range generation key value) shown laid = (tt, laid)
   tables_first placed (tables.Loaded range generation table next) shown laid = ((laid.0, tt), laid.1)
 
   kept_first : (seen : List Note) (note : Note) → Keeps seen (seen ++ note ∷ [])

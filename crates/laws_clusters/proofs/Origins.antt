@@ -93,6 +93,7 @@ note_more : (h new : List Note) (note : Note) → NoteFrom h note → NoteFrom (
 note_more h new (notes.Began range generation number changes) f = origin_more h new range f
 note_more h new (notes.Done range generation number) f = origin_more h new range f
 note_more h new (notes.Loaded range generation rows next) f = origin_more h new range f
+note_more h new (notes.Got range generation key value) f = tt
 note_more h new (notes.Split parent low high key) f = tt
 note_more h new (notes.Merged left right range) f = tt
 note_more h new (notes.Acked e offset group) f = tt

@@ -94,6 +94,7 @@ noted_grows range generation placed (n ∷ more) within old = step n within.0 (n
     step (tables.Began r g number changes) w grows = one (note_told old (tables.Began r g number changes)) refl (λ h o. subst (HasOrigin h) (sym w.0) o) _ grows
     step (tables.Done r g number) w grows = one (note_told old (tables.Done r g number)) refl (λ h o. subst (HasOrigin h) (sym w.0) o) _ grows
     step (tables.Loaded r g table next) w grows = one (note_told old (tables.Loaded r g table next)) refl (λ h o. subst (HasOrigin h) (sym w.0) o) _ grows
+    step (tables.Got r g key value) w grows = one (note_told old (tables.Got r g key value)) refl (λ h o. tt) _ grows
 
 -- ---- events
 
@@ -308,6 +309,7 @@ told_origin h (note ∷ ns) r all = step note all.0 (told_origin h ns r all.1)
     step (notes.Began range generation number changes) o rest = served range (notes.Began range generation number changes) o refl rest
     step (notes.Done range generation number) o rest = served range (notes.Done range generation number) o refl rest
     step (notes.Loaded range generation rows next) o rest = served range (notes.Loaded range generation rows next) o refl rest
+    step (notes.Got range generation key value) o rest = rest
     step (notes.Split parent low high key) o rest = rest
     step (notes.Merged left right range) o rest = rest
     step (notes.Acked e offset group) o rest = rest

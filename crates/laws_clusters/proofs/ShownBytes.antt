@@ -1,7 +1,7 @@
 -- What the observations of a run show of an extent stands in its text.
 use Rattle.std.proofs.Common.{◌≡◌, ℕ, zero, suc, ◌+◌, ◌≤◌, ◌<◌, List, [], ◌∷◌, ◌++◌, length, take, drop, Contains, refl, sym, ap, ◌∙◌, subst, arith, get_or, append-nil}
 use Rattle.wire.specs.declared.note.Note.{Note}
-use Rattle.wire.specs.declared.note.Note.TheVariants.{Acked, SealedAt, Content, Seen, Began, Done, Loaded, Split, Merged}
+use Rattle.wire.specs.declared.note.Note.TheVariants.{Acked, SealedAt, Content, Seen, Began, Done, Loaded, Got, Split, Merged}
 use Rattle.replica.specs.Groups.{Group, joined, text}
 use Rattle.replica.proofs.Lengths.{text-append}
 use Rattle.model_streams.specs.Honest.{Stands}
@@ -92,6 +92,7 @@ module _ (nodes target : ℕ) (moves : List Move) where
       go (SealedAt e l) c = tt
       go (Began range generation number changes) c = tt
       go (Done range generation number) c = tt
+      go (Got range generation key value) c = tt
       go (Loaded range generation rows next) c = tt
       go (Split range low high key) c = tt
       go (Merged left right range) c = tt

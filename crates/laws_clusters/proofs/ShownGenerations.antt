@@ -106,6 +106,7 @@ module _ (nodes servers target batch : ℕ) (events : List Event) (are : AreUnme
   origin_of (notes.Began r generation number changes) range from is = subst (HasOrigin (notes_of c)) (sym (eqb-true range r is)) from
   origin_of (notes.Done r generation number) range from is = subst (HasOrigin (notes_of c)) (sym (eqb-true range r is)) from
   origin_of (notes.Loaded r generation rows next) range from is = subst (HasOrigin (notes_of c)) (sym (eqb-true range r is)) from
+  origin_of (notes.Got r generation key value) range from is = absurd cc
   origin_of (notes.Split parent low high key) range from is = absurd cc
   origin_of (notes.Merged left right r) range from is = absurd cc
   origin_of (notes.Acked e offset group) range from is = absurd cc

@@ -69,7 +69,7 @@ pub data Adds (x : ServerRun) (c : Cluster) (event : Event) (d : Cluster) : Type
 
 module _ (c : Cluster) where
   -- what a rule of the map shows, which a packet is
-  data RuleShows (p : Packet) (o : Outcome MapState) : Type 0 where
+  pub data RuleShows (p : Packet) (o : Outcome MapState) : Type 0 where
     Silent : (none : o.notes ≡ []) → RuleShows p o
     SplitDone : (range low high : ℕ) (key : List ℕ) (q : ReqNo) (entry : RangeEntry) (asked : p.body ≡ bodies.Map (maps.CompleteSplit range entry.generation q)) (found : range_at c.map.ranges range ≡ Some entry)
         (pending : entry.pending ≡ Some (pendings.Split key low high)) (left : o.after ≡ complete_split c.map range) (is : o.notes ≡ notes.Split range low high key ∷ []) → RuleShows p o
@@ -78,11 +78,11 @@ module _ (c : Cluster) where
   abbrev m : MapState
   m = c.map
 
-  assign_silent : (range server until : ℕ) (o : Option RangeEntry) → (assign_rule m range server until o).notes ≡ []
+  pub assign_silent : (range server until : ℕ) (o : Option RangeEntry) → (assign_rule m range server until o).notes ≡ []
   assign_silent range server until None = refl
   assign_silent range server until (Some r) = if_elim (λ (o : Outcome MapState). o.notes ≡ []) (nat_lt (suc r.generation) (2 ^ 64)) _ _ (λ t. refl) (λ f. refl)
 
-  renew_silent : (range server until : ℕ) (o : Option RangeEntry) → (renew_rule m range server until o).notes ≡ []
+  pub renew_silent : (range server until : ℕ) (o : Option RangeEntry) → (renew_rule m range server until o).notes ≡ []
   renew_silent range server until None = refl
   renew_silent range server until (Some r) = refl
 
@@ -144,7 +144,7 @@ module _ (c : Cluster) where
       complete_merge_shows p q left right (union_at m.ranges left right) (complete_merge_fault a b (range_at m.ranges left) (range_at m.ranges right) (union_at m.ranges left right))
   told_shows p body is = Silent refl
 
-  map_shows : (p : Packet) (body : Body) → p.body ≡ body → RuleShows p (map_rule m p body)
+  pub map_shows : (p : Packet) (body : Body) → p.body ≡ body → RuleShows p (map_rule m p body)
   map_shows p (bodies.Map body) is = told_shows p body is
   map_shows p body is = Silent refl
 

@@ -80,6 +80,7 @@ plain_within : (texts : ℕ → Bytes) (placed : ℕ → List PlacedBytes) (note
 plain_within texts placed [] plain = tt
 plain_within texts placed (tables.Began range generation number changes ∷ notes) plain = plain_within texts placed notes plain
 plain_within texts placed (tables.Done range generation number ∷ notes) plain = plain_within texts placed notes plain
+plain_within texts placed (tables.Got range generation key value ∷ notes) plain = plain_within texts placed notes plain
 plain_within texts placed (tables.Loaded range generation table next ∷ notes) plain = absurd plain
 
 -- so it is where no table is shown

@@ -9,13 +9,14 @@ use Rattle.model_streams.specs.declared.event.Event.{Event}
 use Rattle.model_streams.specs.StreamSystem.{StreamSystem}
 use Rattle.model_partition.specs.Cluster.{Cluster, AreUnmerged, cluster_after_all, first_cluster}
 use Rattle.model_partition.specs.Honest.{Honest}
-use Rattle.model_partition.specs.Past.{Bytes, Replays, first_range, keys_of}
+use Rattle.model_partition.specs.Past.{Bytes, first_range, keys_of}
 use Rattle.model_partition.specs.Range.{RangeState}
 use Rattle.model_histories.specs.ServedTables.{IsAtLine, LoadsOnce, ServesAt}
 use Rattle.model_histories.specs.ServerRun.{ServerRun, ServerEvent, run_of, stream_named, log_name}
 use Rattle.model_histories.specs.ServerTurns.{AreMoves}
 use Rattle.model_histories.specs.Story.{Copy, KeepsOrder, Story, EndsRise}
 use Rattle.model_histories.specs.TableContents.{AllTellRightly}
+use Rattle.laws_tables.specs.Reads.{ReplaysAndServes}
 use Rattle.laws_server_runs.specs.BornRanges.{AllInOrder}
 use Rattle.laws_server_runs.specs.ChildInvariant.{AreBornSo}
 use Rattle.laws_server_runs.specs.OwnKeys.{IsAtLineWithin}
@@ -31,10 +32,10 @@ use Rattle.laws_clusters.proofs.FirstNumber.{run_unborn}
 use Rattle.laws_clusters.proofs.Generations.{generation_at}
 use Rattle.laws_clusters.proofs.Invariant.{Bases, Standing}
 use Rattle.laws_clusters.proofs.ObservedBytes.{observed_stand}
+use Rattle.laws_clusters.proofs.ReadRanges.{run_serves}
 use Rattle.laws_clusters.proofs.SharesInRuns.{StandsSharing, order, shared_until}
 use Rattle.laws_clusters.proofs.ShownBytes.{texts, all_right}
 use Rattle.laws_clusters.proofs.SplitEvents.{StandsSplitting}
-use Rattle.laws_clusters.proofs.SplitReplays.{run_tables}
 use Rattle.laws_clusters.proofs.SplitRuns.{run_splitting}
 use Rattle.laws_clusters.proofs.StreamOrders.{m_order, l_order, m_once, l_once, m_ends, l_ends, metadata_part, log_part}
 use Rattle.laws_clusters.proofs.ToldRanges.{run_keys}
@@ -135,16 +136,17 @@ module _ (nodes servers target batch : ℕ) (events : List Event) (are : AreUnme
         told = x.told;
       }
 
-  -- and what they show replays
-  pub led_replays : Replays c.stream_layer.notes
-  led_replays = run_tables nodes servers target batch events are
+  -- and what they show replays, and each answered Get is served
+  led_serves : ReplaysAndServes c.stream_layer.notes
+  led_serves = run_serves nodes servers target batch events are
 
   -- so all that is observed is honest
   pub led_honest : Honest c.stream_layer.notes
   led_honest = record {
     agree = led_agrees nodes servers target batch events;
     kept = led_keeps nodes servers target batch events;
-    replays = led_replays;
+    replays = led_serves.replays;
+    served = led_serves.served;
   }
 
   -- and each range that is served is at its line within its keys, over any texts that have all that was observed

@@ -10,7 +10,7 @@ use Rattle.model_partition.specs.declared.split_job.SplitPhase.{SplitPhase}
 use Rattle.model_partition.specs.declared.split_job.SplitPhase.TheVariants as phases
 use Rattle.model_partition.specs.declared.split_job.Side.{Side}
 use Rattle.model_partition.specs.declared.split_job.Side.TheVariants.{Low, High}
-use Rattle.model_partition.specs.Past.{Bytes, Replays, first_range, keys_of}
+use Rattle.model_partition.specs.Past.{Bytes, first_range, keys_of}
 use Rattle.model_partition.specs.Range.{RangeState}
 use Rattle.model_partition.specs.Splits.{side_range}
 use Rattle.model_partition.specs.Cluster.{Cluster, AreUnmerged, cluster_after_all, first_cluster}
@@ -18,11 +18,11 @@ use Rattle.model_histories.specs.Log.{is_of, only}
 use Rattle.model_histories.specs.ServedTables.{AreSeenAs, ServesAt}
 use Rattle.model_histories.specs.ServerRun.{ServerEvent, run_of}
 use Rattle.laws_tables.specs.Families.{IsChild, generation_of}
-use Rattle.laws_tables.proofs.Others.{keys_same, with_others}
+use Rattle.laws_tables.proofs.Others.{keys_same}
 use Rattle.laws_map.specs.Stages.{stage_of}
 use Rattle.laws_server_runs.specs.BornRanges.{AllInOrder, IsToldOf, AreShared, AllAreBorn}
 use Rattle.laws_server_runs.specs.ChildInvariant.{HasPair, IsCompleting, ChildAt, AreBornSo}
-use Rattle.laws_server_runs.proofs.SplitsReplay.{splits_replay, splits_keys}
+use Rattle.laws_server_runs.proofs.SplitsReplay.{splits_keys}
 use Rattle.laws_clusters.specs.ServerEvents.{server_events_after}
 use Rattle.laws_clusters.proofs.EndedSplits.{IsEnded, run_ends}
 use Rattle.laws_clusters.proofs.FirstNumber.{run_unborn}
@@ -144,15 +144,8 @@ module _ (nodes servers target batch : ℕ) (events : List Event) (are : AreUnme
       ])
     ]
 
-    -- THE TABLES OF A RUN WITH SPLITS REPLAY
-    -- where its ranges are born as splits wait for them, its streams keep their order, and what servers showed is what is seen
-    pub run_replays : (born : AreBornSo texts batch servers coming) (order : AllInOrder texts batch servers coming) → AreSeenAs texts (run_of batch servers coming).notes (server_notes c.stream_layer.notes) →
-        ((p r : ℕ) (s : IsOfSplit p r) → AreShared texts batch servers coming s.until order p r) → Replays c.stream_layer.notes
-    run_replays born order seen shared =
-        with_others c.stream_layer.notes
-        (splits_replay texts batch servers h coming born order seen (run_unborn nodes servers target batch events are) (run_first_unborn nodes servers target batch events) (run_born order shared))
-
-    -- and each range that is served has the keys that splits left to it
+    -- Where its ranges are born as splits wait for them, its streams keep their order, and what servers showed is what is seen, each range that is served
+    -- has the keys that splits left to it.
     pub run_keys : (born : AreBornSo texts batch servers coming) (order : AllInOrder texts batch servers coming) → AreSeenAs texts (run_of batch servers coming).notes (server_notes c.stream_layer.notes) →
         ((p r : ℕ) (s : IsOfSplit p r) → AreShared texts batch servers coming s.until order p r) → (s range : ℕ) (r : RangeState) → ServesAt (run_of batch servers coming) s range r → r.said.keys ≡ keys_of c.stream_layer.notes range
     run_keys born order seen shared s range r at =

@@ -40,6 +40,8 @@ seen_apart texts n range g placed apart (tables.Done r h number ∷ told) within
     not_one n note notes (ap (is_of n) seen.0 ∙ other_test n r (λ e. apart (e ∙ within.0.0))) (seen_apart texts n range g placed apart told within.1 notes seen.1)
 seen_apart texts n range g placed apart (tables.Loaded r h table next ∷ told) within (note ∷ notes) seen =
     not_one n note notes (ap (is_of n) seen.0.1 ∙ other_test n r (λ e. apart (e ∙ within.0.0))) (seen_apart texts n range g placed apart told within.1 notes seen.1)
+seen_apart texts n range g placed apart (tables.Got r h key value ∷ told) within (note ∷ notes) seen =
+    not_one n note notes (ap (is_of n) seen.0) (seen_apart texts n range g placed apart told within.1 notes seen.1)
 
 -- ---- an event
 

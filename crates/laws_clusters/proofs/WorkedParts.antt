@@ -1,6 +1,6 @@
 -- A worked stream that is built of another's, whose source answers an append late: after it is built, and after the load of the generation that was
 -- named. The append stands in what the stream shows all the same.
-use Rattle.std.proofs.Common.{◌≡◌, ◌⊎◌, ⊎_elim, ℕ, ◌+◌, ◌≤◌, List, [], ◌∷◌, ◌++◌, Some, None, Contains, refl, sym, subst, inl, inr, arith}
+use Rattle.std.proofs.Common.{◌≡◌, ⊎_elim, ℕ, ◌+◌, ◌≤◌, List, [], ◌∷◌, ◌++◌, Some, None, Contains, refl, sym, subst, inl, inr, arith}
 use Rattle.replica.specs.Groups.{Group}
 use Rattle.model_histories.specs.ServerTurns.{Move, Assigned, AllSealed, ConfirmedIs, Forms, AppendedAt, ExtendedTo, Below, Above, after_all, AreMoves}
 use Rattle.model_histories.specs.Story.{Placed, StreamEvent, Made, Answered, Showed, Story, event_at, Copy, placed}

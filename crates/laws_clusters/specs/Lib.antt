@@ -3,3 +3,4 @@ pub mod Leases
 pub mod Orders
 pub mod Senders
 pub mod ServerEvents
+pub mod Timely

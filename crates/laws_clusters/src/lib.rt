@@ -5,8 +5,11 @@
 //! machines of the streams of each range go on beside the run, each range at a server is of an incarnation of its own, no number
 //! of a request is used twice, and the stories that the servers make of what comes to them are those of the machines. It begins with
 //! a cluster to which nothing has come (`FirstStanding`), and holds whatever the map is asked, splits and merges too (`MapSteps`).
-//! `Theorem` draws the conclusion that `runs_are_honest` of the crate `laws` states, and `world` of its runs. That the map keeps to the
-//! leases that it told (`LeasesInRuns`) is so of all runs.
+//! `Theorem` draws the conclusion that `runs_are_honest` of the crate `laws` states, and `world` of its runs. Of all runs, merges among
+//! them, it is so that the map keeps to the leases that it told, of which two of a range are apart (`LeasesInRuns`); that servers go by
+//! one clock and hold ranges under leases that the map told (`Moments`); and that while such a lease lasts nobody else holds the range
+//! within one, nor has loaded it above (`ServesAlone`). For these each step of a server is gone through, splits and merges in it (`HeldRanges`, `MergeLoads`), with what is known
+//! of the ranges that it holds (`LeasedRanges`) and of all that were opened and loaded (`LoadsElsewhere`).
 //!
 //! Of splits stands, over all runs without merges: no split makes a second first range
 //! (`FirstNumber`); a stream that is to come stays so, or begins without an extent, or as the stream that it is built of (`StreamFates`);
@@ -28,6 +31,9 @@
 //! (`SharedLogs`, `SharesInRuns`). From the moment at which a server asks for the streams of a split's two ranges (`AskedBuilds`) nothing is out
 //! under the generation that it names, and nothing is begun under it (`PausedStreams`, `RestingIncarnations`), so these have all that their
 //! source ever answers up to that generation (`BuiltParts`, `SourceParts`). Each split that is shown was one of a server that waited for its end (`EndedSplits`), and streams are built as splits
-//! wait for them (`BornSo`, `UntoldRanges`). So what is told of a run without merges replays (`ToldRanges`, `SplitReplays`), and each
-//! range that is served is at its line within its own keys (`Theorem`).
+//! wait for them (`BornSo`, `UntoldRanges`). So the ranges of a run without merges are members of a family (`ToldRanges`, `RunMembers`), and
+//! each range that is served is at its line within its own keys (`Theorem`). Each Get whose answer is observed has its event (`ReadMoments`),
+//! with which a server shows answered Gets alone (`GotSteps`). As the lease lasts then and no split has paused the range, nothing of it was told
+//! under a higher generation, nor anything of a range that it is an ancestor of (`ReadsAlone`). So what is told replays, and each answered Get
+//! shows all that was acknowledged so far (`ReadRanges`).
 #![tactic(auto)]

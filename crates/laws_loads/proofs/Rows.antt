@@ -9,7 +9,7 @@ use Rattle.std.proofs.lemmas.Bool.{leb-true}
 use Rattle.std.proofs.lemmas.List.Concat.{flat_map-cons}
 use Rattle.std.proofs.lemmas.Map.Text.{is_eq-slice_cmp}
 use Rattle.wire.specs.declared.note.Note.{Note}
-use Rattle.wire.specs.declared.note.Note.TheVariants.{Acked, SealedAt, Content, Seen, Began, Done, Loaded, Split, Merged}
+use Rattle.wire.specs.declared.note.Note.TheVariants.{Acked, SealedAt, Content, Seen, Began, Done, Loaded, Got, Split, Merged}
 use Rattle.wire.specs.declared.rows.Row.{Row}
 use Rattle.memtable.specs.declared.cell.Cell.{Cell}
 use Rattle.memtable.specs.declared.cell.Cell.TheVariants.{Deleted, Inline, Placed}
@@ -123,6 +123,7 @@ module _ (texts : ℕ → Bytes) where
   shown_rightly (SealedAt e length) place value right is = absurd cc
   shown_rightly (Began range generation number changes) place value right is = absurd cc
   shown_rightly (Done range generation number) place value right is = absurd cc
+  shown_rightly (Got range generation key found) place value right is = absurd cc
   shown_rightly (Loaded range generation rows next) place value right is = absurd cc
   shown_rightly (Split range low high key) place value right is = absurd cc
   shown_rightly (Merged left right range) place value told is = absurd cc

@@ -28,7 +28,7 @@ use Rattle.laws_map.proofs.Rising.{rising_removed}
 use Rattle.laws_map.proofs.Lookups.{removed_other, put_other, inserted_other, removed_here, put_here, inserted_here, rising_put}
 use Rattle.laws_map.proofs.GenerationsInRuns.{same_request}
 use Rattle.laws_map.proofs.RangeNames.{no_less, on_and_on}
-use Rattle.laws_map.proofs.RangeLoads.{Has, IfHas, Good, Loads, Waits, beyond_answers, waiting_answers, behind_quiet}
+use Rattle.laws_map.proofs.RangeLoads.{Has, IfHas, Good, Loads, Waits, shows_weaker, beyond_answers, waiting_answers, behind_quiet}
 use Rattle.laws_map.proofs.SplitLoads.{quiet_known, IsSameSplit, SameIf, StandsWith, Goes, split_follows, split_gives_up}
 
 -- ---- a longer post
@@ -127,8 +127,8 @@ module _ (post : List Packet) (s : ServerState) (a : AreOpening post s) where
     abbrev number : ReqNo
     number = requests.Server s.context.server s.context.session opening.count
 
-    abbrev pub P : LoadState → Stage → Type 0
-    P = Stood post x r.load.generation number
+    abbrev pub P : ℕ → LoadState → Stage → Type 0
+    P until load stage = Stood post x r.load.generation number load stage
 
     -- where it stands, it is opening still
     stands_opening : (more : List Packet) (after : RangeState) → Has P after → IsOpening (post ++ more) s.context.server s.context.session x after
@@ -314,24 +314,24 @@ module _ (post : List Packet) (s : ServerState) (a : AreOpening post s) where
 
     -- ---- answers
 
-    waits_as : (o : RangeOutcome) → Good (Waits x r.load.generation number) s.context o → Good P s.context o
-    waits_as o g = (on o.after g.0, g.1, g.2)
+    waits_as : (o : RangeOutcome) → Good (Waits x r.load.generation r.until number) s.context o → Good P s.context o
+    waits_as o g = (on o.after g.0, g.1, g.2, shows_weaker (Waits x r.load.generation r.until number) P (λ until load stage beyond h. (h.0, h.1, inl h.2)) o.notes g.3)
       where
-        on : (R : Option RangeState) → IfHas (Waits x r.load.generation number) R → IfHas P R
+        on : (R : Option RangeState) → IfHas (Waits x r.load.generation r.until number) R → IfHas P R
         on None h = tt
         on (Some after) h = (h.0, h.1, inl h.2)
 
-    loads_as : (o : RangeOutcome) → HasOpened post number → Good (Loads x r.load.generation) s.context o → Good P s.context o
-    loads_as o told g = (on o.after g.0, g.1, g.2)
+    loads_as : (o : RangeOutcome) → HasOpened post number → Good (Loads x r.load.generation r.until) s.context o → Good P s.context o
+    loads_as o told g = (on o.after g.0, g.1, g.2, shows_weaker (Loads x r.load.generation r.until) P (λ until load stage beyond h. (h.0, h.1, inr (h.2, told))) o.notes g.3)
       where
-        on : (R : Option RangeState) → IfHas (Loads x r.load.generation) R → IfHas P R
+        on : (R : Option RangeState) → IfHas (Loads x r.load.generation r.until) R → IfHas P R
         on None h = tt
         on (Some after) h = (h.0, h.1, inr (h.2, told))
 
     pub answer_stands : (p : Packet) → Contains post p → (w : ReqNo) → answered_number p.body ≡ Some w → Good P s.context (answer_rule s.context r w p.body)
     answer_stands p there w number_is = elim opening.stands.2 [
       | inl waits ↦ waiting waits
-      | inr told ↦ loads_as (answer_rule s.context r w p.body) told.1 (beyond_answers x r.load.generation s.context r w p.body (opening.stands.0, refl, told.0))
+      | inr told ↦ loads_as (answer_rule s.context r w p.body) told.1 (beyond_answers x r.load.generation r.until s.context r w p.body (opening.stands.0, refl, told.0, refl))
     ]
       where
         -- the streams were told under the number that is waited for
@@ -342,7 +342,7 @@ module _ (post : List Packet) (s : ServerState) (a : AreOpening post s) where
             record { packet = p; lists = lists; sent = there; is = is ∙ ap (λ z. bodies.Stream (streams.Opened z lists)) (named ∙ sym same) }
 
         waiting : IsWaiting number r.load.phase r.stage → Good P s.context (answer_rule s.context r w p.body)
-        waiting waits = elim (waiting_answers x r.load.generation number s.context r w p.body (opening.stands.0, refl, waits)) [
+        waiting waits = elim (waiting_answers x r.load.generation r.until number s.context r w p.body (opening.stands.0, refl, waits, refl)) [
           | inl still ↦ waits_as (answer_rule s.context r w p.body) still
           | inr on ↦ elim on.1 [
             | inl still ↦ waits_as (answer_rule s.context r w p.body) still

@@ -52,7 +52,7 @@ module _ (post : List Packet) (s : ServerState) (a : AreOpening post s) where
 
   users_quiet : (held : Option RangeState) → AreQuiet (users_of s.context held)
   users_quiet None = tt
-  users_quiet (Some r) = refused_for (λ load stage. Unit {0}) s.context r
+  users_quiet (Some r) = refused_for (λ until load stage. Unit {0}) s.context r
 
   module _ (range generation until : ℕ) (held : Option RangeState) where
     abbrev new : RangeState

@@ -66,7 +66,7 @@ quiet_known post packets h = each_weaker (λ (p : Packet). IsQuiet p.body) (λ (
 abbrev pub IsSameSplit : SplitJob → SplitJob → Type 0
 IsSameSplit job other = (other.range ≡ job.range) × (other.generation ≡ job.generation) × (other.key ≡ job.key)
 
-module _ (P : LoadState → Stage → Type 0) (post : List Packet) (job : SplitJob) where
+module _ (P : ℕ → LoadState → Stage → Type 0) (post : List Packet) (job : SplitJob) where
   abbrev pub SameIf : Option SplitJob → Type 0
   SameIf None = Unit {0}
   SameIf (Some other) = IsSameSplit job other

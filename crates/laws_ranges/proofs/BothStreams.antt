@@ -136,9 +136,10 @@ module _ (generation : ℕ → ℕ) (range : ℕ) (w : StreamSystem) (i : ℕ) (
 
     -- ---- a step that turns neither
 
-    pub still_asked : (after : Option RangeState) (count : ℕ) (packets : List Packet) → FollowsIf generation range w i after m l → d.count ≤ count →
-        AskedOfBoth generation range w i after m l packets → GoesQuietly generation range w i m l d (record { after = after; count = count; packets = packets; notes = [] })
-    still_asked after count packets follows more asked =
+    -- whatever is shown
+    still_shown : (after : Option RangeState) (count : ℕ) (packets : List Packet) (notes : List TableNote) → FollowsIf generation range w i after m l → d.count ≤ count →
+        AskedOfBoth generation range w i after m l packets → GoesQuietly generation range w i m l d (record { after = after; count = count; packets = packets; notes = notes })
+    still_shown after count packets notes follows more asked =
         record {
           goes = record {
             metadata_turns = [];
@@ -161,9 +162,17 @@ module _ (generation : ℕ → ℕ) (range : ℕ) (w : StreamSystem) (i : ℕ) (
           log = tt;
         }
 
+    pub still_asked : (after : Option RangeState) (count : ℕ) (packets : List Packet) → FollowsIf generation range w i after m l → d.count ≤ count →
+        AskedOfBoth generation range w i after m l packets → GoesQuietly generation range w i m l d (record { after = after; count = count; packets = packets; notes = [] })
+    still_asked after count packets follows more asked = still_shown after count packets [] follows more asked
+
+    pub still_showing : (after : Option RangeState) (count : ℕ) (packets : List Packet) (notes : List TableNote) → FollowsIf generation range w i after m l → d.count ≤ count →
+        AreAsked generation range w i (log_of range) l.stand l.sent packets → GoesQuietly generation range w i m l d (record { after = after; count = count; packets = packets; notes = notes })
+    still_showing after count packets notes follows more asked = still_shown after count packets notes follows more (asked_of_both generation range w i both after m l by.apart packets asked)
+
     pub still_quietly : (after : Option RangeState) (count : ℕ) (packets : List Packet) → FollowsIf generation range w i after m l → d.count ≤ count →
         AreAsked generation range w i (log_of range) l.stand l.sent packets → GoesQuietly generation range w i m l d (record { after = after; count = count; packets = packets; notes = [] })
-    still_quietly after count packets follows more asked = still_asked after count packets follows more (asked_of_both generation range w i both after m l by.apart packets asked)
+    still_quietly after count packets follows more asked = still_showing after count packets [] follows more asked
 
     pub still_both : (after : RangeState) (count : ℕ) (packets : List Packet) → Follows generation range w i m l after → d.count ≤ count →
         AreAsked generation range w i (log_of range) l.stand l.sent packets → RuleGoes generation range w i m l d (record { after = Some after; count = count; packets = packets; notes = [] })

@@ -21,11 +21,12 @@ use Rattle.model_partition.specs.Range.{RangeState, RangeOutcome, refuses, answe
 use Rattle.model_partition.specs.PlaceReads.{place_of, places_of}
 use Rattle.model_partition.specs.Getting.{Lookup, Is, Needs, Tried, asks_place, answered, try_fault, try_unless, try, try_all, get_fault, gets, get_rule, are_no_page, bytes_come, bytes_rule, came, look, read_at, standing, used_for, without}
 use Rattle.model_partition.specs.Answering.{bytes_reply, gets_reply, load_refused}
+use Rattle.model_partition.specs.declared.table_note.TableNote.{TableNote}
 use Rattle.laws_stream_machine.specs.Refinement.{Sent}
 use Rattle.laws_ranges.specs.Serves.{Stand, Side, log_of, AreAsked, Follows, BothListed, IsSentBy}
 use Rattle.laws_ranges.specs.Quiet.{GoesQuietly}
 use Rattle.laws_ranges.proofs.LogRules.{asked_both}
-use Rattle.laws_ranges.proofs.BothStreams.{still_quietly, follows_same}
+use Rattle.laws_ranges.proofs.BothStreams.{still_showing, follows_same}
 use Rattle.laws_ranges.proofs.Confirmed.{dropped_quietly}
 
 -- ---- what is tried
@@ -65,11 +66,11 @@ module _ (generation : ℕ → ℕ) (range : ℕ) (w : StreamSystem) (i : ℕ) (
 
 -- what is so where the range keeps all but its Gets and what was read for them, and where it is dropped
 module _ (generation : ℕ → ℕ) (range : ℕ) (w : StreamSystem) (i : ℕ) (l : Side) (d : ServerContext) (r : RangeState) (Holds : RangeOutcome → Type 0)
-    (still : (gets : List WaitingGet) (held : List (Place × List ℕ)) (count : ℕ) (packets : List Packet) → d.count ≤ count → AreAsked generation range w i (log_of range) l.stand l.sent packets →
-    Holds (record { after = Some (record r { gets = gets; held = held }); count = count; packets = packets; notes = [] }))
+    (still : (gets : List WaitingGet) (held : List (Place × List ℕ)) (count : ℕ) (packets : List Packet) (notes : List TableNote) → d.count ≤ count → AreAsked generation range w i (log_of range) l.stand l.sent packets →
+    Holds (record { after = Some (record r { gets = gets; held = held }); count = count; packets = packets; notes = notes }))
     (gone : Holds (dropped d r)) where
   pub refused_is : (from : ActorId) (v : ReqNo) (why : Refusal) → Holds (answers d r (refuses d from v why ∷ []))
-  refused_is from v why = still r.gets r.held d.count (refuses d from v why ∷ []) (omega arith) (inl (λ u n s z. tt), tt)
+  refused_is from v why = still r.gets r.held d.count (refuses d from v why ∷ []) [] (omega arith) (inl (λ u n s z. tt), tt)
 
   gets_is : (from : ActorId) (v : ReqNo) (key : List ℕ) (fault : Option Refusal) → Holds (gets d r from v key fault)
   gets_is from v key (Some why) = refused_is from v why
@@ -77,7 +78,7 @@ module _ (generation : ℕ → ℕ) (range : ℕ) (w : StreamSystem) (i : ℕ) (
       let g : WaitingGet = record { from = from; request = v; key = key; reads = [] } in
       let t : Tried = try d r g in
       let is : IsTry generation range w i (log_of range) l.stand l.sent d t = one_try generation range w i (log_of range) l.stand l.sent d r g in
-      still (r.gets ++ t.waiting) (used_for r.held r.indexes key (standing r key)) t.count t.packets is.0 is.1
+      still (r.gets ++ t.waiting) (used_for r.held r.indexes key (standing r key)) t.count t.packets t.notes is.0 is.1
 
   -- a Get
   pub get_is : (from : ActorId) (v : ReqNo) (key : List ℕ) → Holds (get_rule d r from v key)
@@ -89,10 +90,10 @@ module _ (generation : ℕ → ℕ) (range : ℕ) (w : StreamSystem) (i : ℕ) (
       let now : RangeState = record r { held = came r.held (read_at r.gets v) place bytes } in
       let t : Tried = try_all d now (map (without v) r.gets) in
       let is : IsTry generation range w i (log_of range) l.stand l.sent d t = all_try generation range w i (log_of range) l.stand l.sent d now (map (without v) r.gets) in
-      still t.waiting now.held t.count t.packets is.0 is.1
+      still t.waiting now.held t.count t.packets t.notes is.0 is.1
 
   rested : Holds (answers d r [])
-  rested = still r.gets r.held d.count [] (omega arith) tt
+  rested = still r.gets r.held d.count [] [] (omega arith) tt
 
   -- bytes that spell no page where one is wanted change nothing
   pages_are : (v : ReqNo) (place : Place) (bytes : List ℕ) → Holds (bytes_rule d r v place bytes)
@@ -121,10 +122,10 @@ module _ (generation : ℕ → ℕ) (range : ℕ) (w : StreamSystem) (i : ℕ) (
   abbrev Quiet : RangeOutcome → Type 0
   Quiet o = GoesQuietly generation range w i m l d o
 
-  still : (gets : List WaitingGet) (held : List (Place × List ℕ)) (count : ℕ) (packets : List Packet) → d.count ≤ count → AreAsked generation range w i (log_of range) l.stand l.sent packets →
-      Quiet (record { after = Some (record r { gets = gets; held = held }); count = count; packets = packets; notes = [] })
-  still gets held count packets more asked =
-      still_quietly generation range w i both m l d by (Some (record r { gets = gets; held = held })) count packets (follows_same generation range w i m l r r.until gets held f) more asked
+  still : (gets : List WaitingGet) (held : List (Place × List ℕ)) (count : ℕ) (packets : List Packet) (notes : List TableNote) → d.count ≤ count → AreAsked generation range w i (log_of range) l.stand l.sent packets →
+      Quiet (record { after = Some (record r { gets = gets; held = held }); count = count; packets = packets; notes = notes })
+  still gets held count packets notes more asked =
+      still_showing generation range w i both m l d by (Some (record r { gets = gets; held = held })) count packets notes (follows_same generation range w i m l r r.until gets held f) more asked
 
   gone : Quiet (dropped d r)
   gone = dropped_quietly generation range w i both m l d by r

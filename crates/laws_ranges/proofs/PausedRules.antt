@@ -32,6 +32,7 @@ use Rattle.model_partition.specs.Getting.{get_rule}
 use Rattle.model_partition.specs.Checkpoints.{rows_told, rows_may_stand, rows_reply}
 use Rattle.model_partition.specs.Answering.{index_reply, page_reply, gets_reply}
 use Rattle.model_partition.specs.Splits.{SplitStep, open_last, may_say_keys}
+use Rattle.model_partition.specs.declared.table_note.TableNote.{TableNote}
 use Rattle.model_histories.specs.StreamActions.{split_group}
 use Rattle.laws_loads.specs.RangeView.{RangeView}
 use Rattle.laws_loads.proofs.IndexAnswers.{index_reply_elim}
@@ -162,10 +163,10 @@ module _ (generation : ℕ → ℕ) (range : ℕ) (w : StreamSystem) (i : ℕ) (
 
     -- ---- what users ask
 
-    got : (gets : List WaitingGet) (held : List (Place × List ℕ)) (count : ℕ) (packets : List Packet) → d.count ≤ count → AreAsked generation range w i (log_of range) l.stand l.sent packets →
-        Sees (record { after = Some (record r { gets = gets; held = held }); count = count; packets = packets; notes = [] })
-    got gets held count packets more asked =
-        kept_still (record { after = Some (record r { gets = gets; held = held }); count = count; packets = packets; notes = [] })
+    got : (gets : List WaitingGet) (held : List (Place × List ℕ)) (count : ℕ) (packets : List Packet) (notes : List TableNote) → d.count ≤ count → AreAsked generation range w i (log_of range) l.stand l.sent packets →
+        Sees (record { after = Some (record r { gets = gets; held = held }); count = count; packets = packets; notes = notes })
+    got gets held count packets notes more asked =
+        kept_still (record { after = Some (record r { gets = gets; held = held }); count = count; packets = packets; notes = notes })
         (record { load = refl; stage = refl; pause = refl; control = refl; out = refl; metadata = (r.metadata.pick, refl); log = (r.log.pick, refl); said = refl; blob = refl; rows = p.rows }) more asked
 
     pub get_paused : (from : ActorId) (q : ReqNo) (key : List ℕ) → Sees (get_rule d r from q key)

@@ -36,6 +36,7 @@ use Rattle.model_partition.specs.Serving.{record_of, out_size, group_count, form
 use Rattle.model_partition.specs.Getting.{get_rule}
 use Rattle.model_partition.specs.Checkpoints.{has_record_number, may_record, merges, pages_stand, rows_stand, rows_told, rows_may_stand, rows_reply, record_stands, record_told, trim_awaits, trim_told, trim_reply_in}
 use Rattle.model_partition.specs.Answering.{groups_of, load_reply, load_refused, metadata_reply, serving_news, is_taken, log_reply, index_reply, page_reply, trim_reply, gets_reply, answer_rule, give_up_all}
+use Rattle.model_partition.specs.declared.table_note.TableNote.{TableNote}
 use Rattle.laws_loads.proofs.IndexAnswers.{index_reply_elim}
 use Rattle.laws_loads.proofs.PageAnswers.{merged, page_reply_elim}
 use Rattle.laws_ranges.specs.Serves.{Side, AreAsked, log_of}
@@ -173,9 +174,9 @@ module _ (r : RangeState) (stage : r.stage ≡ stages.Serving) where
     trim_stays body = (stage, λ none. none)
 
     module _ (generation : ℕ → ℕ) (range : ℕ) (w : StreamSystem) (i : ℕ) (l : Side) where
-      still : (gets : List WaitingGet) (held : List (Place × List ℕ)) (count : ℕ) (packets : List Packet) → d.count ≤ count → AreAsked generation range w i (log_of range) l.stand l.sent packets →
-          Stays (record { after = Some (record r { gets = gets; held = held }); count = count; packets = packets; notes = [] })
-      still gets held count packets more asked = (stage, λ none. none)
+      still : (gets : List WaitingGet) (held : List (Place × List ℕ)) (count : ℕ) (packets : List Packet) (notes : List TableNote) → d.count ≤ count → AreAsked generation range w i (log_of range) l.stand l.sent packets →
+          Stays (record { after = Some (record r { gets = gets; held = held }); count = count; packets = packets; notes = notes })
+      still gets held count packets notes more asked = (stage, λ none. none)
 
       pub get_stays : (from : ActorId) (q : ReqNo) (key : List ℕ) → Stays (get_rule d r from q key)
       get_stays from q key = get_is generation range w i l d r Stays still tt from q key

@@ -3,7 +3,7 @@ use Rattle.std.proofs.Common.{◌≡◌, ◌⊎◌, ⊎_elim, ◌<◌, ◌≤◌
 use Rattle.std.proofs.lemmas.Bool.{eqb-true}
 use Rattle.std.proofs.lemmas.List.Elements.{Contains-append_cases}
 use Rattle.wire.specs.declared.note.Note.{Note}
-use Rattle.wire.specs.declared.note.Note.TheVariants.{Acked, SealedAt, Content, Seen, Began, Done, Loaded, Split, Merged}
+use Rattle.wire.specs.declared.note.Note.TheVariants.{Acked, SealedAt, Content, Seen, Began, Done, Loaded, Got, Split, Merged}
 use Rattle.model_partition.specs.declared.table_note.TableNote.{TableNote}
 use Rattle.model_partition.specs.declared.table_note.TableNote.TheVariants as tables
 use Rattle.model_partition.specs.Past.{Bytes}
@@ -65,6 +65,7 @@ module _ (r : ℕ) (note : Note) (is : is_of r note ≡ true) (h : List Note) (r
   one_more (Seen n m o bytes) known = kept_in (Seen n m o bytes) known
   one_more (Began other g s t) known = kept_in (Began other g s t) known
   one_more (Done other g s) known = kept_in (Done other g s) known
+  one_more (Got other g key value) known = kept_in (Got other g key value) known
   one_more (Loaded other g shown next) known = kept_in (Loaded other g shown next) known
 
 pub shown_by_servers : (r : ℕ) (note : Note) (h : List Note) → is_of r note ≡ true → Contains h note → Contains (of_servers h) note
@@ -77,6 +78,7 @@ module _ (texts : ℕ → Bytes) (placed : List PlacedBytes) (k g : ℕ) where
   one_under : (told : TableNote) (note : Note) → NoteWithin k g placed told → IsSeenAs texts told note → (r : ℕ) → is_of r note ≡ true → (r ≡ k) × (generation_of note ≡ g)
   one_under (tables.Began range generation number changes) note within seen r is = (eqb-true r range (sym (ap (is_of r) seen) ∙ is) ∙ within.0, ap generation_of seen ∙ within.1)
   one_under (tables.Done range generation number) note within seen r is = (eqb-true r range (sym (ap (is_of r) seen) ∙ is) ∙ within.0, ap generation_of seen ∙ within.1)
+  one_under (tables.Got range generation key value) note within seen r is = absurd (let z : false ≡ true = sym (ap (is_of r) seen) ∙ is in cc)
   one_under (tables.Loaded range generation table next) note within seen r is = (eqb-true r range (sym (ap (is_of r) seen.1) ∙ is) ∙ within.0, ap generation_of seen.1 ∙ within.1)
 
   all_under : (told : List TableNote) (notes : List Note) → NotesWithin k g placed told → AreSeenAs texts told notes → (note : Note) → Contains notes note → (r : ℕ) → is_of r note ≡ true → (r ≡ k) × (generation_of note ≡ g)

@@ -3,7 +3,7 @@
 use Rattle.std.proofs.Common.{◌≡◌, ℕ, ◌<◌, ◌≤◌, true, List, [], ◌∷◌, ◌++◌, Some, refl, sym, ap, ◌∙◌, subst, inl, inr}
 use Rattle.std.specs.Prelude.{Contains}
 use Rattle.wire.specs.declared.note.Note.{Note}
-use Rattle.wire.specs.declared.note.Note.TheVariants.{Acked, SealedAt, Content, Seen, Began, Done, Loaded, Split, Merged}
+use Rattle.wire.specs.declared.note.Note.TheVariants.{Acked, SealedAt, Content, Seen, Began, Done, Loaded, Got, Split, Merged}
 use Rattle.metadata.specs.declared.record.KeyRange.{KeyRange}
 use Rattle.metadata.specs.Fold.{MetadataState}
 use Rattle.model_partition.specs.declared.split_job.Side.{Side}
@@ -59,6 +59,7 @@ parts_of (Content n m groups ∷ h) (x ∷ first) second e = let c = cons_parts 
 parts_of (Seen n m o bytes ∷ h) (x ∷ first) second e = let c = cons_parts (Seen n m o bytes) x (of_servers h) (first ++ second) e in one_shown (Seen n m o bytes) x h first second (λ l. refl) c.0 (parts_of h first second c.1)
 parts_of (Began other g s t ∷ h) (x ∷ first) second e = let c = cons_parts (Began other g s t) x (of_servers h) (first ++ second) e in one_shown (Began other g s t) x h first second (λ l. refl) c.0 (parts_of h first second c.1)
 parts_of (Done other g s ∷ h) (x ∷ first) second e = let c = cons_parts (Done other g s) x (of_servers h) (first ++ second) e in one_shown (Done other g s) x h first second (λ l. refl) c.0 (parts_of h first second c.1)
+parts_of (Got other g key value ∷ h) (x ∷ first) second e = let c = cons_parts (Got other g key value) x (of_servers h) (first ++ second) e in one_shown (Got other g key value) x h first second (λ l. refl) c.0 (parts_of h first second c.1)
 parts_of (Loaded other g shown next ∷ h) (x ∷ first) second e =
     let c = cons_parts (Loaded other g shown next) x (of_servers h) (first ++ second) e in one_shown (Loaded other g shown next) x h first second (λ l. refl) c.0 (parts_of h first second c.1)
 

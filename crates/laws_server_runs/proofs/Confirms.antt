@@ -31,7 +31,7 @@ use Rattle.model_partition.specs.declared.stage.Stage.TheVariants as stages
 use Rattle.model_partition.specs.declared.table_note.TableNote.TheVariants as tables
 use Rattle.model_partition.specs.Answering.{load_refused, load_told, load_reply}
 use Rattle.model_partition.specs.Loading.{has_position, log_end, open_region, opens, serves, serves_from, serves_region, shown_table}
-use Rattle.model_histories.specs.Log.{line_shown}
+use Rattle.model_histories.specs.Log.{line_shown, without_gots}
 use Rattle.model_partition.specs.Past.{Bytes, Transaction, stored}
 use Rattle.model_histories.specs.IndexContents.{entries_in}
 use Rattle.model_partition.specs.Range.{RangeState, RangeOutcome, answers, dropped, is_serving}
@@ -133,14 +133,14 @@ module _ (texts : ℕ → Bytes) (subject : ℕ) (run : Run) (v : RangeView) (r 
     rows_say rows says = table_load texts run v r h.log streams order h.installed sorted rows says
 
     seen_now : (before later : List Note) → AreObserved texts subject run before →
-        AreSeenAs texts (tables.Loaded r.load.range r.load.generation (shown_table r) region.next ∷ []) later → AreObserved texts subject (run_loaded run v r) (before ++ later)
+        AreSeenAs texts (tables.Loaded r.load.range r.load.generation (shown_table r) region.next ∷ []) later → AreObserved texts subject (run_loaded run v r) (before ++ without_gots later)
     seen_now before [] o s = absurd s
     seen_now before (note ∷ (other ∷ later)) o s = absurd s.1
     seen_now before (note ∷ []) o s =
         let rows : List Row = s.0.0 in
         let note_is : note ≡ Loaded subject r.load.generation rows (next_loaded first_beginning (spelled_groups v r) (shown_records v r)) =
         s.0.1 ∙ (λ i. Loaded (kept.range i) r.load.generation rows (number_is i)) in
-        subst (λ (n : Note). AreObserved texts subject (run_loaded run v r) (before ++ n ∷ [])) (sym note_is)
+        subst (λ (n : Note). AreObserved texts subject (run_loaded run v r) (before ++ without_gots (n ∷ []))) (sym note_is)
         (load_observed texts subject run r.load.generation (place_number (start_of r)) end (place_number (metadata_end r)) (spelled_groups v r) (shown_records v r) rows before
         (rows_say rows s.0.2) o)
 

@@ -1,10 +1,10 @@
 -- The ranges of a run of servers are a family, where each of which anything is told is the first or came of another: so what is told replays.
-use Rattle.std.proofs.Common.{◌≡◌, ◌⊎◌, ⊎_elim, ℕ, zero, suc, ◌<◌, ◌==◌, true, List, [], ◌∷◌, ◌++◌, length, map, Some, refl, sym, ap, ◌∙◌, subst, inl, inr, arith, append-nil, if◌then◌else◌}
+use Rattle.std.proofs.Common.{◌≡◌, ◌⊎◌, ⊎_elim, ℕ, zero, suc, ◌<◌, ◌==◌, true, List, [], ◌∷◌, ◌++◌, length, map, Some, refl, sym, ap, ◌∙◌, subst, inl, inr, arith, append-nil, append_assoc, if◌then◌else◌}
 use Rattle.std.specs.Prelude.{Contains}
 use Rattle.std.proofs.lemmas.Bool.Decides.{nat_tests}
-use Rattle.std.proofs.lemmas.List.{append_cancel_left}
+use Rattle.std.proofs.lemmas.List.{append_cancel_left, append_cancel_right}
 use Rattle.wire.specs.declared.note.Note.{Note}
-use Rattle.wire.specs.declared.note.Note.TheVariants.{Acked, SealedAt, Content, Seen, Began, Done, Loaded, Split, Merged}
+use Rattle.wire.specs.declared.note.Note.TheVariants.{Acked, SealedAt, Content, Seen, Began, Done, Loaded, Got, Split, Merged}
 use Rattle.wire.specs.declared.rows.Row.{Row}
 use Rattle.metadata.specs.declared.record.KeyRange.{KeyRange}
 use Rattle.metadata.specs.Fold.{MetadataState, all_keys}
@@ -28,7 +28,8 @@ use Rattle.laws_tables.proofs.Members.{in_contains, contains_in, in_middle}
 use Rattle.laws_checkpoints.specs.IndexLayers.{layer_at}
 use Rattle.laws_loads.proofs.Renaming.{showed_from}
 use Rattle.laws_server_runs.specs.FamilyMembers.{of_servers, IsMember, IsEldest, IsHalf, CameOf, AllCame}
-use Rattle.laws_server_runs.specs.RunInvariant.{view_at, with_stage, HeldKept, HasLoad}
+use Rattle.laws_server_runs.specs.RangeInvariant.{IsLonger}
+use Rattle.laws_server_runs.specs.RunInvariant.{view_at, with_stage, HeldKept, HasLoad, RunBehind}
 use Rattle.laws_server_runs.proofs.ConfirmedLoads.{has_behind}
 use Rattle.laws_server_runs.proofs.FamilyParents.{only_in, ShowsLoad, load_seen, own_parts, moment_told, moment_loaded, moment_answered}
 use Rattle.laws_server_runs.proofs.FamilyRanges.{seen_length, rows, own, log_order, family_range}
@@ -46,6 +47,7 @@ only_of_servers range (Split parent low high key ∷ h) = only_of_servers range 
 only_of_servers range (Merged left right into ∷ h) = only_of_servers range h
 only_of_servers range (Acked e o group ∷ h) = only_of_servers range h
 only_of_servers range (SealedAt e l ∷ h) = only_of_servers range h
+only_of_servers range (Got other g key value ∷ h) = only_of_servers range h
 only_of_servers range (Content e n groups ∷ h) = only_of_servers range h
 only_of_servers range (Seen e n o bytes ∷ h) = only_of_servers range h
 only_of_servers range (Began other g s t ∷ h) = ap (λ l. if range == other then Began other g s t ∷ l else l) (only_of_servers range h)
@@ -62,6 +64,7 @@ of_servers_both (Content e n groups ∷ xs) ys = ap (λ l. Content e n groups �
 of_servers_both (Seen e n o bytes ∷ xs) ys = ap (λ l. Seen e n o bytes ∷ l) (of_servers_both xs ys)
 of_servers_both (Began other g s t ∷ xs) ys = ap (λ l. Began other g s t ∷ l) (of_servers_both xs ys)
 of_servers_both (Done other g s ∷ xs) ys = ap (λ l. Done other g s ∷ l) (of_servers_both xs ys)
+of_servers_both (Got other g key value ∷ xs) ys = ap (λ l. Got other g key value ∷ l) (of_servers_both xs ys)
 of_servers_both (Loaded other g shown next ∷ xs) ys = ap (λ l. Loaded other g shown next ∷ l) (of_servers_both xs ys)
 
 -- ---- parts of runs
@@ -106,16 +109,16 @@ keys_both keys own rest h none = subst (HasKeys keys) (ap (λ z. own ++ z) none 
 
 module _ (texts : ℕ → Bytes) (x : ServerRun) (h : List Note) (seen_as : AreSeenAs texts x.notes (of_servers h)) (member : (r : ℕ) → IsMember texts x r) where
   -- the rows of each load
-  abbrev rows_of : ℕ → ℕ → List Row
+  abbrev pub rows_of : ℕ → ℕ → List Row
   rows_of r = rows texts r (member r).taken x (member r).kept (of_servers h) seen_as
 
-  counted : (r : ℕ) → length (member r).taken.notes ≡ length (seen first_beginning (rows_of r) r (member r).taken.run)
+  pub counted : (r : ℕ) → length (member r).taken.notes ≡ length (seen first_beginning (rows_of r) r (member r).taken.run)
   counted r = (member r).count ∙ seen_length (λ l. []) (rows_of r) r r (member r).taken.run
 
-  abbrev own_of : ℕ → Run
+  abbrev pub own_of : ℕ → Run
   own_of r = own texts r (member r).taken x (member r).kept (of_servers h) seen_as
 
-  abbrev taken_of : ℕ → Run
+  abbrev pub taken_of : ℕ → Run
   taken_of r = (member r).taken.run
 
   abbrev of_part : (r : ℕ) → IsRange (layer_at texts) (of_servers h) r (own_of r) (taken_of r) (rows_of r)
@@ -175,9 +178,10 @@ module _ (texts : ℕ → Bytes) (x : ServerRun) (h : List Note) (seen_as : AreS
       in_all note (Seen e n o bytes ∷ l) there = ⊎_elim {C = In note (Seen e n o bytes ∷ l)} (λ e. inl e) (λ t. inr (in_all note l t)) there
       in_all note (Began other g s t ∷ l) there = ⊎_elim {C = In note (Began other g s t ∷ l)} (λ e. inl e) (λ t. inr (in_all note l t)) there
       in_all note (Done other g s ∷ l) there = ⊎_elim {C = In note (Done other g s ∷ l)} (λ e. inl e) (λ t. inr (in_all note l t)) there
+      in_all note (Got other g key value ∷ l) there = ⊎_elim {C = In note (Got other g key value ∷ l)} (λ e. inl e) (λ t. inr (in_all note l t)) there
       in_all note (Loaded other g shown next ∷ l) there = ⊎_elim {C = In note (Loaded other g shown next ∷ l)} (λ e. inl e) (λ t. inr (in_all note l t)) there
 
-      has_parent : HasParent (layer_at texts) h own_of taken_of rows_of range_of p r
+      pub has_parent : HasParent (layer_at texts) h own_of taken_of rows_of range_of p r
       has_parent = record {
         child = c.child;
         early = c.old.behind.0;
@@ -293,10 +297,10 @@ module _ (texts : ℕ → Bytes) (x : ServerRun) (h : List Note) (seen_as : AreS
         by (inr (inr (p, c))) below =
             ⊎_elim {C = (only r h ≡ []) ⊎ KnowsKeys r} (λ none. absurd (parent_told p r c none)) (λ known. inr (child_known p r c known)) (below p (smaller h p r c.child))
 
-    all_keys_are : (r : ℕ) → HasKeys (keys_of h r) (own_of r)
+    pub all_keys_are : (r : ℕ) → HasKeys (keys_of h r) (own_of r)
     all_keys_are r = ⊎_elim {C = HasKeys (keys_of h r) (own_of r)} (λ none. untold_keys r none) (λ known. known.keys) (known_below (suc r) r (omega arith))
 
-    family : IsFamily (layer_at texts) h
+    abbrev pub family : IsFamily (layer_at texts) h
     family = record {
       own = own_of;
       taken = taken_of;
@@ -314,23 +318,33 @@ module _ (texts : ℕ → Bytes) (x : ServerRun) (h : List Note) (seen_as : AreS
     pub members_replay : Replays h
     members_replay = families_replay (layer_at texts) h family
 
-    -- A RANGE THAT IS SERVED HAS THE KEYS that were observed
-    pub served_keys : (s range : ℕ) (r : RangeState) → ServesAt x s range r → r.said.keys ≡ keys_of h range
-    served_keys s range r at = by (known_below (suc range) range (omega arith))
+    -- A RANGE THAT IS SERVED HAS THE KEYS that were observed, already at a moment before
+    pub moment_keys : (range : ℕ) (y : ServerRun) (old : RunBehind texts range (member range).taken y) → IsLonger old.run (member range).kept.run → (s : ℕ) (r : RangeState) → ServesAt y s range r → r.said.keys ≡ keys_of h range
+    moment_keys range y old goes s r at = by (known_below (suc range) range (omega arith))
       where
-        load : HasLoad r.load.generation (own_of range)
-        load = (member range).kept.loaded s r at
+        parts : own_of range ≡ goes.0 ++ old.behind.0
+        parts =
+            append_cancel_right (own_of range) (goes.0 ++ old.behind.0) (taken_of range)
+            (sym (member range).kept.behind.1 ∙ goes.1 ∙ ap (λ z. goes.0 ++ z) old.behind.1 ∙ sym (append_assoc goes.0 old.behind.0 (taken_of range)))
 
-        says : r.said ≡ said first_beginning (held first_beginning (member range).kept.run r.load.generation).records
+        load : HasLoad r.load.generation old.behind.0
+        load = old.loaded s r at
+
+        says : r.said ≡ said first_beginning (held first_beginning old.run r.load.generation).records
         says =
-            let k : HeldKept texts range (member range).kept.run (view_at range x s) r (split_of at.state.splits range) = kept_at texts range (member range).taken x (member range).kept s r at in
-            (serves_of texts range (member range).kept.run (with_stage (view_at range x s) k.split) r at.serves k.range).matches.said
+            let k : HeldKept texts range old.run (view_at range y s) r (split_of at.state.splits range) = kept_at texts range (member range).taken y old s r at in
+            (serves_of texts range old.run (with_stage (view_at range y s) k.split) r at.serves k.range).matches.said
 
         by : (only range h ≡ []) ⊎ KnowsKeys range → r.said.keys ≡ keys_of h range
         by (inl none) =
-            let t : (table : List Row) × (next : ℕ) × In (Loaded range r.load.generation table next) (only range h) = load_told range r.load.generation load in
+            let t : (table : List Row) × (next : ℕ) × In (Loaded range r.load.generation table next) (only range h) =
+            load_told range r.load.generation (subst (HasLoad r.load.generation) (sym parts) (has_behind r.load.generation goes.0 old.behind.0 load)) in
             absurd (subst (In (Loaded range r.load.generation t.0 t.1)) none t.2)
         by (inr known) =
             ap (λ (m : MetadataState). m.keys) says
-            ∙ ap (λ z. (said first_beginning (held first_beginning z r.load.generation).records).keys) (member range).kept.behind.1
-            ∙ held_keys (layer_at texts) r.load.generation (keys_of h range) (own_of range) (taken_of range) (range_of range).runs known.keys known.these load
+            ∙ ap (λ z. (said first_beginning (held first_beginning z r.load.generation).records).keys) old.behind.1
+            ∙ held_keys (layer_at texts) r.load.generation (keys_of h range) old.behind.0 (taken_of range) (subst (IsChainRun (layer_at texts) first_beginning) old.behind.1 old.streams.chain)
+            (keys_behind (keys_of h range) goes.0 old.behind.0 (subst (HasKeys (keys_of h range)) parts known.keys)) (these_behind (keys_of h range) goes.0 old.behind.0 (subst (NamesThese (keys_of h range)) parts known.these)) load
+
+    pub served_keys : (s range : ℕ) (r : RangeState) → ServesAt x s range r → r.said.keys ≡ keys_of h range
+    served_keys s range r at = moment_keys range x (member range).kept ([], refl) s r at

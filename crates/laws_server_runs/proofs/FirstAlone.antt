@@ -5,7 +5,7 @@ use Rattle.wire.specs.declared.actor.ActorId.TheVariants as actors
 use Rattle.wire.specs.declared.note.Note.{Note}
 use Rattle.model_streams.specs.Maps.{entry_at}
 use Rattle.model_partition.specs.declared.table_note.TableNote.{TableNote}
-use Rattle.model_histories.specs.Log.{only}
+use Rattle.model_histories.specs.Log.{only, without_gots}
 use Rattle.model_partition.specs.Past.{Bytes, first_range}
 use Rattle.model_partition.specs.Range.{RangeState, RangeOutcome}
 use Rattle.model_partition.specs.Server.{ServerState, ServerOutcome, range_of, set_range, new_range, split_of}
@@ -26,6 +26,7 @@ use Rattle.laws_server_runs.proofs.OwnNotes.{only_both, own_notes}
 use Rattle.laws_server_runs.proofs.RangeLists.{inserted_other, left_other}
 use Rattle.laws_server_runs.proofs.RunSteps.{IsAnyPair, AllAssigned, any_numbered, event_kind, event_step}
 use Rattle.laws_server_runs.proofs.Unmerged.{unmerged}
+use Rattle.laws_tables.proofs.WithoutGots.{without-append}
 
 abbrev IsTheFirst : ℕ → Type 0
 IsTheFirst range = range ≡ first_range
@@ -119,7 +120,7 @@ module _ (texts : ℕ → Bytes) (batch servers : ℕ) where
   -- so what is seen is of the first range alone
   record IsOfTheFirst (x : ServerRun) : Type 0 where
     holds : HoldsFirst x.servers
-    seen : (notes : List Note) → AreSeenAs texts x.notes notes → only first_range notes ≡ notes
+    seen : (notes : List Note) → AreSeenAs texts x.notes notes → only first_range notes ≡ without_gots notes
 
   one_taken : (event : ServerEvent) (earlier : List ServerEvent) → IsOfServers event → IsFirst event → IsOfTheFirst (run_of batch servers earlier) → IsOfTheFirst (run_of batch servers (event ∷ earlier))
   one_taken event earlier is first old = record { holds = step.0; seen = all }
@@ -133,11 +134,12 @@ module _ (texts : ℕ → Bytes) (batch servers : ℕ) where
       step : HoldsFirst (after_event x event).servers × AreOfFirst more
       step = step_first x (all_laid batch servers earlier) old.holds more (after_event x event) (event_step IsTheFirst IsAnyPair x (unmerged batch servers earlier) event is (first_assigned event first) (any_numbered event))
 
-      all : (notes : List Note) → AreSeenAs texts (after_event x event).notes notes → only first_range notes ≡ notes
+      all : (notes : List Note) → AreSeenAs texts (after_event x event).notes notes → only first_range notes ≡ without_gots notes
       all notes seen =
           let b : SeenBoth texts x.notes more notes = seen_both texts x.notes more notes (subst (λ l. AreSeenAs texts l notes) (event_notes batch servers x event) seen) in
           ap (only first_range) b.is ∙ only_both first_range b.before b.later
-          ∙ (λ i. old.seen b.before b.first_seen i ++ own_notes texts step.1.1 first_range step.1.0 more b.later step.1.2 b.second_seen i) ∙ sym b.is
+          ∙ (λ i. old.seen b.before b.first_seen i ++ own_notes texts step.1.1 first_range step.1.0 more b.later step.1.2 b.second_seen i)
+          ∙ sym (ap without_gots b.is ∙ without-append b.before b.later)
 
   one_more : (event : ServerEvent) (earlier : List ServerEvent) → IsFirst event → IsOfTheFirst (run_of batch servers earlier) → IsOfTheFirst (run_of batch servers (event ∷ earlier))
   one_more event earlier first old = elim (event_kind event) [
@@ -151,7 +153,7 @@ module _ (texts : ℕ → Bytes) (batch servers : ℕ) where
     seen = nothing;
   }
     where
-      nothing : (notes : List Note) → AreSeenAs texts [] notes → only first_range notes ≡ notes
+      nothing : (notes : List Note) → AreSeenAs texts [] notes → only first_range notes ≡ without_gots notes
       nothing [] seen = refl
       nothing (note ∷ notes) seen = absurd seen
 
@@ -159,5 +161,5 @@ module _ (texts : ℕ → Bytes) (batch servers : ℕ) where
   of_first [] first = none_yet
   of_first (event ∷ earlier) first = one_more event earlier first.0 (of_first earlier first.1)
 
-  pub only_first : (events : List ServerEvent) → AreFirst events → (notes : List Note) → AreSeenAs texts (run_of batch servers events).notes notes → only first_range notes ≡ notes
+  pub only_first : (events : List ServerEvent) → AreFirst events → (notes : List Note) → AreSeenAs texts (run_of batch servers events).notes notes → only first_range notes ≡ without_gots notes
   only_first events first notes seen = (of_first events first).seen notes seen

@@ -1,7 +1,6 @@
 -- What a generation holds over a chain run is the line that it has come to, with what is out: so a range that matches it is at its line.
 use Rattle.std.proofs.Common.{◌≡◌, ℕ, suc, ◌+◌, ◌==◌, max, nat_lt, Bool, true, false, List, [], ◌∷◌, ◌++◌, length, map, Option, Some, None, if◌then◌else◌, refl, sym, ap, ◌∙◌, subst, arith, append-nil}
 use Rattle.std.proofs.lemmas.Bool.{ltb-true, ltb-false}
-use Rattle.std.proofs.lemmas.Bool.Decides.{nat_tests}
 use Rattle.std.proofs.lemmas.List.{append_cancel_right}
 use Rattle.wire.specs.declared.rows.Row.{Row}
 use Rattle.memtable.specs.declared.cell.Place.{Place}
@@ -17,11 +16,10 @@ use Rattle.model_partition.specs.declared.checkpoint_job.CheckpointPhase.TheVari
 use Rattle.model_partition.specs.CheckpointStates.{CheckpointState}
 use Rattle.model_histories.specs.IndexContents.{served_entries}
 use Rattle.model_partition.specs.Loading.{Group}
-use Rattle.model_histories.specs.Log.{line_shown}
 use Rattle.model_partition.specs.Past.{Bytes, Transaction, after_line, empty_table}
 use Rattle.model_partition.specs.Range.{OutGroup, RangeState, waiting_out}
 use Rattle.model_histories.specs.Renaming.{renamed, renamed_copy, renamed_placed, renamed_event, numbered_if, decoded, decoded_record}
-use Rattle.model_histories.specs.ServedTables.{AllStand, IsAtLine, items_under, is_under, line_to, end_to}
+use Rattle.model_histories.specs.ServedTables.{AllStand, IsAtLine, is_under, line_to, end_to}
 use Rattle.model_partition.specs.Servers.{entries_if}
 use Rattle.model_partition.specs.Serving.{record_of}
 use Rattle.model_histories.specs.Story.{Placed, StreamEvent, Made, Answered, Showed, Story, event_at, Copy, placed, whole, KeepsOrder, EndsRise}
@@ -36,8 +34,7 @@ use Rattle.laws_tables.specs.Runs.{Run, Beginning, Serving, first_beginning, hel
 use Rattle.laws_tables.specs.Through.{OutAppend, HasLine, line_through}
 use Rattle.laws_tables.proofs.Ends.{renamed_ends_rise}
 use Rattle.laws_tables.proofs.Layers.{in_all}
-use Rattle.laws_tables.proofs.Range.{newest, older}
-use Rattle.laws_tables.proofs.Whole.{to_made}
+use Rattle.laws_tables.proofs.RunLines.{out_made, through_line}
 use Rattle.laws_checkpoints.specs.IndexLayers.{layer_at}
 use Rattle.laws_checkpoints.proofs.Checkpoints.{newer_layer}
 use Rattle.laws_checkpoints.proofs.ShownRows.{ascending_if, written_ascending}
@@ -48,108 +45,9 @@ use Rattle.laws_server_runs.specs.RangeInvariant.{append_of, Matches, Serves, St
 use Rattle.laws_server_runs.proofs.ServedLine.{known_at, IsAtOwnLine, at_own_line}
 use Rattle.laws_server_runs.proofs.NamedIndexes.{written_named}
 
--- ---- the append that is out
-
-module _ (b : Beginning) (g : ℕ) where
-  -- it was begun, under this generation
-  abbrev IsOutMade : Story (Numbered Transaction) → Serving → Type 0
-  IsOutMade log s = (o : OutAppend Transaction) → s.out ≡ Some o → event_at log o.append ≡ Some (Made g o.group)
-
-  out_later : (e : StreamEvent (Numbered Transaction)) (log : Story (Numbered Transaction)) (s : Serving) → IsOutMade log s → IsOutMade (e ∷ log) s
-  out_later e log s made o is = older (Numbered Transaction) e log o.append (Made g o.group) (made o is)
-
-  out_formed : (log : Story (Numbered Transaction)) (h : ℕ) (group : Numbered Transaction) (s : Serving) → IsOutMade log s → (t : Bool) → (g == h) ≡ t →
-      IsOutMade (Made h group ∷ log) (if t then formed (length log) group s else s)
-  out_formed log h group s made true e o is =
-      let same : g ≡ h = grind (arith, nat_tests) in
-      let mine : record { append = length log; group = group } ≡ o = cc in
-      subst (λ (z : OutAppend Transaction). event_at (Made h group ∷ log) z.append ≡ Some (Made g z.group)) mine
-      (newest (Numbered Transaction) (Made h group) log ∙ ap (λ k. Some (Made k group)) (sym same))
-  out_formed log h group s made false e o is = out_later (Made h group) log s made o is
-
-  -- what leaves it, and what leaves none
-  out_kept : (log : Story (Numbered Transaction)) (next s : Serving) → next.out ≡ s.out → IsOutMade log s → (t : Bool) → IsOutMade log (if t then next else s)
-  out_kept log next s same made true o is = made o (sym same ∙ is)
-  out_kept log next s same made false o is = made o is
-
-  out_gone : (log : Story (Numbered Transaction)) (next s : Serving) → next.out ≡ None → IsOutMade log s → (t : Bool) → IsOutMade log (if t then next else s)
-  out_gone log next s none made true o is = absurd (let z : None ≡ Some o = sym none ∙ is in cc)
-  out_gone log next s none made false o is = made o is
-
-  pub out_made : (run : Run) → IsOutMade (chains.log_of run) (held b run g)
-  out_made [] = λ o is. absurd cc
-  out_made (chains.Forms h group ∷ run) = out_formed (chains.log_of run) h group (held b run g) (out_made run) (g == h) refl
-  out_made (chains.Logged h append from to ∷ run) =
-      out_gone (Answered append from to ∷ chains.log_of run) (logged to (held b run g)) (held b run g) refl (out_later (Answered append from to) (chains.log_of run) (held b run g) (out_made run)) (g == h)
-  out_made (chains.Notes h ∷ run) = out_kept _ _ _ refl (out_made run) (g == h)
-  out_made (chains.Records h number item ∷ run) = out_kept _ _ _ refl (out_made run) (g == h)
-  out_made (chains.Recorded h append from to ∷ run) = out_kept _ _ _ refl (out_made run) (g == h)
-  out_made (chains.Trims h place ∷ run) = out_made run
-  out_made (chains.Confirms h start end groups metadata_end records ∷ run) =
-      out_gone (Showed h start end groups ∷ chains.log_of run) (confirmed b start end groups records) (held b run g) refl
-      (out_later (Showed h start end groups) (chains.log_of run) (held b run g) (out_made run)) (g == h)
-
--- ---- the line of a generation
+-- ---- the position of a generation
 
 module _ (g : ℕ) where
-  -- what it has come to, with what is out, is all that it made
-  abbrev IsThrough : Story (Numbered Transaction) → Serving → Type 0
-  IsThrough story s = line_to story g ++ items_out s.out ≡ line_through story g
-
-  same_of : (h : ℕ) → (g == h) ≡ true → g ≡ h
-  same_of h e = grind (arith, nat_tests)
-
-  through_formed : (story : Story (Numbered Transaction)) (s : Serving) (h n : ℕ) (group : Numbered Transaction) → (g ≡ h → s.out ≡ None) → IsThrough story s → (t : Bool) → (g == h) ≡ t →
-      line_to story g ++ items_out (if t then formed n group s else s).out ≡ (if t then line_through story g ++ group.items else line_through story g)
-  through_formed story s h n group none old true e =
-      let all : line_to story g ≡ line_through story g =
-      sym (append-nil (line_to story g)) ∙ ap (λ o. line_to story g ++ items_out o) (sym (none (same_of h e))) ∙ old in
-      ap (λ l. l ++ group.items) all
-  through_formed story s h n group none old false e = old
-
-  through_logged : (story : Story (Numbered Transaction)) (s : Serving) (h append to : ℕ) (group : Numbered Transaction) → event_at story append ≡ Some (Made h group) →
-      (g ≡ h → s.out ≡ Some (record { append = append; group = group })) → IsThrough story s → (t : Bool) → (g == h) ≡ t →
-      (line_to story g ++ items_under g (event_at story append)) ++ items_out (if t then logged to s else s).out ≡ line_through story g
-  through_logged story s h append to group made out old true e =
-      let items : items_under g (event_at story append) ≡ group.items = ap (items_under g) made ∙ ap (λ (b : Bool). if b then group.items else []) e in
-      append-nil (line_to story g ++ items_under g (event_at story append))
-      ∙ ap (λ l. line_to story g ++ l) (items ∙ sym (ap items_out (out (same_of h e)))) ∙ old
-  through_logged story s h append to group made out old false e =
-      let items : items_under g (event_at story append) ≡ [] = ap (items_under g) made ∙ ap (λ (b : Bool). if b then group.items else []) e in
-      ap (λ l. (line_to story g ++ l) ++ items_out s.out) items ∙ ap (λ l. l ++ items_out s.out) (append-nil (line_to story g)) ∙ old
-
-  through_same : (story : Story (Numbered Transaction)) (next s : Serving) → next.out ≡ s.out → IsThrough story s → (t : Bool) → IsThrough story (if t then next else s)
-  through_same story next s same old true = ap (λ o. line_to story g ++ items_out o) same ∙ old
-  through_same story next s same old false = old
-
-  through_confirmed : (story : Story (Numbered Transaction)) (next s : Serving) (line : List Transaction) → next.out ≡ None → IsThrough story s → (t : Bool) →
-      (if t then line else line_to story g) ++ items_out (if t then next else s).out ≡ (if t then line else line_through story g)
-  through_confirmed story next s line none old true = ap (λ o. line ++ items_out o) none ∙ append-nil line
-  through_confirmed story next s line none old false = old
-
-  pub through_line : (layer_at : Place → Layer) (copies : ℕ → List (Copy (Numbered Transaction))) (run : Run) → IsChainRun layer_at first_beginning run →
-      IsThrough (whole (Numbered Transaction) copies (chains.log_of run)) (held first_beginning run g)
-  through_line layer_at copies [] chain = refl
-  through_line layer_at copies (chains.Forms h group ∷ run) chain =
-      through_formed (whole (Numbered Transaction) copies (chains.log_of run)) (held first_beginning run g) h (length (chains.log_of run)) group
-      (λ same. subst (λ k. (held first_beginning run k).out ≡ None) (sym same) chain.0.1) (through_line layer_at copies run chain.1) (g == h) refl
-  through_line layer_at copies (chains.Logged h append from to ∷ run) chain =
-      let group : Numbered Transaction = chain.0.1 in
-      let out : (held first_beginning run h).out ≡ Some (record { append = append; group = group }) = chain.0.2 in
-      through_logged (whole (Numbered Transaction) copies (chains.log_of run)) (held first_beginning run g) h append to group
-      (to_made (Numbered Transaction) copies (chains.log_of run) append h group (out_made first_beginning h run (record { append = append; group = group }) out))
-      (λ same. subst (λ k. (held first_beginning run k).out ≡ Some (record { append = append; group = group })) (sym same) out) (through_line layer_at copies run chain.1) (g == h) refl
-  through_line layer_at copies (chains.Notes h ∷ run) chain = through_same (whole (Numbered Transaction) copies (chains.log_of run)) (noting (held first_beginning run g)) (held first_beginning run g) refl (through_line layer_at copies run chain.1) (g == h)
-  through_line layer_at copies (chains.Records h number item ∷ run) chain =
-      through_same (whole (Numbered Transaction) copies (chains.log_of run)) (recording (length (chains.meta_of run)) (chains.record_group number item) (held first_beginning run g)) (held first_beginning run g) refl (through_line layer_at copies run chain.1) (g == h)
-  through_line layer_at copies (chains.Recorded h append from to ∷ run) chain = through_same (whole (Numbered Transaction) copies (chains.log_of run)) (chains.recorded (held first_beginning run g)) (held first_beginning run g) refl (through_line layer_at copies run chain.1) (g == h)
-  through_line layer_at copies (chains.Trims h place ∷ run) chain = through_line layer_at copies run chain.1
-  through_line layer_at copies (chains.Confirms h start end groups metadata_end records ∷ run) chain =
-      through_confirmed (whole (Numbered Transaction) copies (chains.log_of run)) (confirmed first_beginning start end groups records) (held first_beginning run g)
-      (line_shown (map placed (copies (length (chains.log_of run))))) refl (through_line layer_at copies run chain.1) (g == h)
-
-  -- ---- its position
-
   position_same : (next s : Serving) (end : ℕ) → next.position ≡ s.position → s.position ≡ end → (t : Bool) → (if t then next else s).position ≡ end
   position_same next s end same old true = same ∙ old
   position_same next s end same old false = old
@@ -193,7 +91,7 @@ module _ {A B : Type 0} (f : A → B) (copies : ℕ → List (Copy A)) where
   all_placed (c ∷ cs) = ap (λ l. renamed_placed f (placed c) ∷ l) (all_placed cs)
 
   -- each load shows all of its copies, whatever groups are called
-  whole_renamed : (story : Story A) → whole B (λ l. map (renamed_copy f) (copies l)) (renamed f story) ≡ renamed f (whole A copies story)
+  pub whole_renamed : (story : Story A) → whole B (λ l. map (renamed_copy f) (copies l)) (renamed f story) ≡ renamed f (whole A copies story)
   whole_renamed [] = refl
   whole_renamed (Made g group ∷ story) = ap (λ l. Made g (f group) ∷ l) (whole_renamed story)
   whole_renamed (Answered append from to ∷ story) = ap (λ l. Answered append from to ∷ l) (whole_renamed story)
@@ -263,7 +161,7 @@ module _ (texts : ℕ → Bytes) where
     m = k.matches
 
     -- the range's own layers, within its keys
-    known_table : (key : Bytes) → within r.said.keys key ≡ true → table_in texts (served_entries texts r) key ≡ flat (known_at texts r key)
+    pub known_table : (key : Bytes) → within r.said.keys key ≡ true → table_in texts (served_entries texts r) key ≡ flat (known_at texts r key)
     known_table key inside =
         table_flat texts (served_entries texts r) key
         ∙ ap flat (served_layer texts r r.said.indexes key m.installed (written_ascending texts r.said.indexes (written_named texts r.said.indexes m.named.indexes)) (ascending_if r.live m.ordered)

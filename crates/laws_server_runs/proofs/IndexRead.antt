@@ -39,8 +39,9 @@ use Rattle.laws_server_runs.proofs.CheckpointSteps.{page_step}
 use Rattle.laws_server_runs.proofs.HeldBytes.{holds_came}
 use Rattle.laws_server_runs.proofs.Loads.{same_kept, calm_kept, dropped_kept, rests_kept}
 use Rattle.laws_server_runs.proofs.ServedNotes.{serves_of}
-use Rattle.laws_server_runs.proofs.LoadsSteps.{Left, goes_left, installs_left}
+use Rattle.laws_server_runs.proofs.LoadsSteps.{Left, goes_left, goes_showing, installs_left}
 use Rattle.laws_server_runs.proofs.Others.{others_kept}
+use Rattle.laws_server_runs.proofs.GetNotes.{try_all_gots}
 
 -- nothing is shown by the steps of a load
 module _ (d : ServerContext) where
@@ -176,8 +177,8 @@ module _ (texts : ℕ → Bytes) (subject : ℕ) (run : Run) (v : RangeView) (r 
   -- what a Get reads is held from then on
   come_kept : (w : ReqNo) (e offset : ℕ) (bytes : List ℕ) → Given (Finds (record { extent = e; offset = offset; bytes = bytes }) ∷ []) (bytes_come d r w (place_of e offset bytes) bytes)
   come_kept w e offset bytes order =
-      goes_left texts subject run v r streams d (Finds (found e offset bytes) ∷ []) v.history (found e offset bytes ∷ v.shown) refl
-      (record r { held = now; gets = (try_all d (record r { held = now }) (map (without w) r.gets)).waiting }) _ _
+      goes_showing texts subject run v r streams d (Finds (found e offset bytes) ∷ []) v.history (found e offset bytes ∷ v.shown) refl
+      (record r { held = now; gets = (try_all d (record r { held = now }) (map (without w) r.gets)).waiting }) _ _ _ r.load.range r.load.generation (try_all_gots d (record r { held = now }) (map (without w) r.gets))
       (same_kept texts subject run (view_found e offset bytes) r r.until r.metadata r.log r.rows r.blob_data r.reading _ now (λ idle. idle) (λ e a. a) (λ idle. idle) refl (λ control a. a)
       (λ read is. (read, is, refl)) (λ read is. (read, is, refl)) (λ right. holds_came texts r.held (read_at r.gets w) (place_of e offset bytes) bytes right (taken_there (texts e) offset bytes order.shown.0)) (kept_found e offset bytes))
       refl (λ serves. serves)

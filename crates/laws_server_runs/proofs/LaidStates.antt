@@ -8,12 +8,14 @@ use Rattle.memtable.specs.Entries.{Entries}
 use Rattle.model_partition.specs.declared.stage.Stage.{Stage}
 use Rattle.model_partition.specs.Loading.{Group}
 use Rattle.model_partition.specs.Range.{OutGroup, RangeState, RangeOutcome, if_there, is_serving}
+use Rattle.model_partition.specs.declared.table_note.TableNote.{TableNote}
 use Rattle.model_histories.specs.StreamActions.{StreamAction, Reads, Forms, Stands, Shows, Finds, Stores, group_of, formed}
 use Rattle.model_histories.specs.ServerRun.{bytes_read}
 use Rattle.laws_loads.specs.RangeView.{RangeView, view_after_all}
 use Rattle.laws_loads.specs.Sound.{IsSound}
-use Rattle.laws_server_runs.specs.Places.{AreWithin, AreLow, IsLaid, placed_of, CheckpointLaid, RangeLaid, IsQuiet, IsRecording, Quiet, OfRecord, RuleLaid}
+use Rattle.laws_server_runs.specs.Places.{AreWithin, AreLow, IsLaid, placed_of, CheckpointLaid, RangeLaid, IsQuiet, IsRecording, Quiet, OfRecord, IsConfirmed, RuleLaid}
 use Rattle.laws_server_runs.proofs.LaidBytes.{entries_on, checkpoint_on, actions_cover}
+use Rattle.laws_server_runs.proofs.GetNotes.{AreGots, gots_within, gots_tables}
 
 -- what is kept of a range but for its checkpoint
 pub record Beside (k : ℕ) (v : RangeView) (load : LoadState) (stage : Stage) (live : Entries) : Type 0 where
@@ -69,6 +71,15 @@ module _ (k : ℕ) (v : RangeView) (r : RangeState) where
   pub left_goes : (actions : List StreamAction) → IsQuiet actions → (next : RangeState) (count : ℕ) (packets : List Packet) → RangeLaid k (view_of actions) next →
       Left actions (record { after = Some next; count = count; packets = packets; notes = [] })
   left_goes actions quiet next count packets laid = record { step = record { after = laid; notes = tt }; forms = Quiet actions quiet; tables = tt }
+
+  -- Gets of the range are shown
+  pub left_shows : (actions : List StreamAction) → IsQuiet actions → (next : RangeState) (count : ℕ) (packets : List Packet) (notes : List TableNote) → r.load.range ≡ k → AreGots r.load.range r.load.generation notes →
+      RangeLaid k (view_of actions) next → Left actions (record { after = Some next; count = count; packets = packets; notes = notes })
+  left_shows actions quiet next count packets notes here gots laid = record {
+    step = record { after = laid; notes = gots_within k r.load.generation (view_of actions).shown r.load.range r.load.generation notes here refl gots };
+    forms = Quiet actions quiet;
+    tables = gots_tables (IsConfirmed r actions) r.load.range r.load.generation notes gots;
+  }
 
   -- the record of its checkpoint is appended
   pub left_records : (group : Group) (earlier : List StreamAction) → IsQuiet earlier → (next : RangeState) (count : ℕ) (packets : List Packet) → IsRecording r (Some next) →

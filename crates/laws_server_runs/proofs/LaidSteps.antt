@@ -1,6 +1,6 @@
 -- Each rule of a range, whatever its streams are, keeps its number and what its layers are laid within, and what it shows is of that
 -- number and laid within what was shown.
-use Rattle.std.proofs.Common.{◌≡◌, ℕ, suc, ◌+◌, ◌<◌, ◌^◌, Bool, true, false, List, [], ◌∷◌, length, nat_lt, ◌&&◌, Option, Some, None, is_some, option_to_list, refl, sym, ap, ◌∙◌, subst, arith, if◌then◌else◌}
+use Rattle.std.proofs.Common.{◌≡◌, ℕ, suc, ◌+◌, ◌<◌, ◌^◌, Bool, true, false, List, [], ◌∷◌, length, map, nat_lt, ◌&&◌, Option, Some, None, is_some, option_to_list, refl, sym, ap, ◌∙◌, subst, arith, if◌then◌else◌}
 use Rattle.block_types.specs.declared.record.Nodes.{Nodes}
 use Rattle.wire.specs.declared.actor.ActorId.{ActorId}
 use Rattle.wire.specs.declared.actor.ReqNo.{ReqNo}
@@ -36,8 +36,8 @@ use Rattle.model_partition.specs.declared.stage.Stage.{Stage}
 use Rattle.model_partition.specs.declared.stage.Stage.TheVariants as stages
 use Rattle.model_partition.specs.Range.{OutGroup, RangeState, RangeOutcome, request, used, answers, dropped, picking, is_serving}
 use Rattle.model_partition.specs.Loading.{Group, said_after, confirms, asks_index, index_named, reads_named, reads_index, installs, index_read, reads_log, open_region, first_position, reads_log_from, checks_log, begins_log, reads_metadata, begins_metadata, opens, are_counted, has_position, says, metadata_news, replayed, replays, log_read, log_news, serves, serves_from, serves_region}
-use Rattle.model_partition.specs.PlaceReads.{places_of, reads_under, reads_page}
-use Rattle.model_partition.specs.Getting.{get_fault, gets, get_rule, read_at, are_no_page}
+use Rattle.model_partition.specs.PlaceReads.{places_of, reads_under, reads_page, place_of}
+use Rattle.model_partition.specs.Getting.{get_fault, gets, get_rule, read_at, are_no_page, came, without}
 use Rattle.model_partition.specs.Answering.{may_stand, load_refused, load_told, load_reply, metadata_reply, serving_news, is_taken, log_taken, log_reply, page_reply, index_reply, trim_reply, bytes_reply, gets_reply, groups_of, answer_rule, give_up_all}
 use Rattle.model_partition.specs.Server.{new_range}
 use Rattle.model_histories.specs.StreamActions.{StreamAction, Reads, Shows, Finds, first_start, read_end, loading_actions, serving_actions, confirmed_actions, load_actions, record_actions, metadata_actions, rows_actions, bytes_told_actions, bytes_actions, log_actions, answer_actions}
@@ -56,8 +56,9 @@ use Rattle.laws_loads.specs.Sound.{IsSound}
 use Rattle.laws_loads.proofs.WaitingStays.{new_sound}
 use Rattle.std.proofs.lemmas.Bool.{and_parts, ltb-true}
 use Rattle.model_partition.specs.Serving.{out_size}
-use Rattle.laws_server_runs.proofs.LaidStates.{Beside, with_checkpoint, view_of, Left, left_drops, left_goes, ReadsNothing, still_beside, still_checkpoint}
+use Rattle.laws_server_runs.proofs.LaidStates.{Beside, with_checkpoint, view_of, Left, left_drops, left_goes, ReadsNothing, still_beside, still_checkpoint, left_shows}
 use Rattle.laws_server_runs.proofs.RowAppends.{give_up_appends}
+use Rattle.laws_server_runs.proofs.GetNotes.{try_gots, try_all_gots}
 
 -- a range that begins its load
 pub new_laid : (k : ℕ) (v : RangeView) (d : ServerContext) (generation until : ℕ) → RangeLaid k v (new_range d k generation until)
@@ -288,7 +289,8 @@ module _ (k : ℕ) (v : RangeView) (r : RangeState) (before : RangeLaid k v r) (
 
   gets_laid : (from : ActorId) (q : ReqNo) (key : List ℕ) (fault : Option Refusal) → RuleLaid k v r [] (gets d r from q key fault)
   gets_laid from q key (Some refusal) = record { step = record { after = before; notes = tt }; forms = Quiet [] tt; tables = tt }
-  gets_laid from q key None = record { step = record { after = again _ still before.sound before.checkpoint; notes = tt }; forms = Quiet [] tt; tables = tt }
+  gets_laid from q key None =
+      left_shows k v r [] tt _ _ _ _ before.range (try_gots d r (record { from = from; request = q; key = key; reads = [] })) (again _ still before.sound before.checkpoint)
 
   pub get_laid : (from : ActorId) (q : ReqNo) (key : List ℕ) → RuleLaid k v r [] (get_rule d r from q key)
   get_laid from q key = gets_laid from q key (get_fault d r key)
@@ -327,7 +329,8 @@ module _ (k : ℕ) (v : RangeView) (r : RangeState) (before : RangeLaid k v r) (
     bytes_left : (w : ReqNo) (body : ReadBody) → Left k v r actions (bytes_reply d r w body)
     bytes_left w (reads.Bytes n e offset bytes) =
         if_elim (Left k v r actions) (are_no_page (read_at r.gets w) bytes) _ _ (λ t. bytes_rest)
-        (λ f. left_goes k v r actions quiet _ _ _ (with_checkpoint k (view_of k v r actions) _ (still_beside k v r before actions nothing) before.sound (still_checkpoint k v r before actions)))
+        (λ f. left_shows k v r actions quiet _ _ _ _ before.range (try_all_gots d (record r { held = came r.held (read_at r.gets w) (place_of e offset bytes) bytes }) (map (without w) r.gets))
+        (with_checkpoint k (view_of k v r actions) _ (still_beside k v r before actions nothing) before.sound (still_checkpoint k v r before actions)))
     bytes_left w body = bytes_rest
 
     refused_read : (body : AppendBody) → Left k v r actions (load_refused d r body)

@@ -64,12 +64,14 @@ module _ (texts : ℕ → Bytes) where
   tables_later old new on [] w = tt
   tables_later old new on (tables.Began range generation number changes ∷ notes) w = tables_later old new on notes w
   tables_later old new on (tables.Done range generation number ∷ notes) w = tables_later old new on notes w
+  tables_later old new on (tables.Got range generation key value ∷ notes) w = tables_later old new on notes w
   tables_later old new on (tables.Loaded range generation table next ∷ notes) w = (table_on texts (old range) (new range) (on range) table w.0, tables_later old new on notes w.1)
 
   pub tables_both : (placed : ℕ → List PlacedBytes) (xs ys : List TableNote) → TablesWithin texts placed xs → TablesWithin texts placed ys → TablesWithin texts placed (xs ++ ys)
   tables_both placed [] ys a b = b
   tables_both placed (tables.Began range generation number changes ∷ xs) ys a b = tables_both placed xs ys a b
   tables_both placed (tables.Done range generation number ∷ xs) ys a b = tables_both placed xs ys a b
+  tables_both placed (tables.Got range generation key value ∷ xs) ys a b = tables_both placed xs ys a b
   tables_both placed (tables.Loaded range generation table next ∷ xs) ys a b = (a.0, tables_both placed xs ys a.1 b)
 
   -- observations of one range, each of whose tables is laid
@@ -78,6 +80,7 @@ module _ (texts : ℕ → Bytes) where
   told_within k g placed shown Is by [] within all = tt
   told_within k g placed shown Is by (tables.Began range generation number changes ∷ notes) within all = told_within k g placed shown Is by notes within.1 all
   told_within k g placed shown Is by (tables.Done range generation number ∷ notes) within all = told_within k g placed shown Is by notes within.1 all
+  told_within k g placed shown Is by (tables.Got range generation key value ∷ notes) within all = told_within k g placed shown Is by notes within.1 all
   told_within k g placed shown Is by (tables.Loaded range generation table next ∷ notes) within all =
       (subst (λ n. TableLaid texts (placed n) table) (sym within.0.0) (by table all.0 within.0.2), told_within k g placed shown Is by notes within.1 all.1)
 

@@ -1,15 +1,18 @@
 pub mod Fronts
 mod ConfirmedLoads
 pub mod Steps
+mod GetNotes
 pub mod Loads
 pub mod LoadsSteps
 pub mod BuiltStreams
 pub mod FamilyRanges
 mod AnsweredGroups
 pub mod FamilyParents
+pub mod FamilyLoads
 mod NamedKeys
 pub mod HeldKeys
 pub mod FamilyMembers
+pub mod FamilyReads
 pub mod LoadsAnswers
 pub mod LoadsAnswered
 pub mod ConfirmedLoad
@@ -132,3 +135,13 @@ pub mod AnsweredBirths
 pub mod AnsweredNotes
 pub mod AnsweredReplays
 mod WorkedAnswers
+pub mod WaitingGets
+pub mod TriedGets
+mod SplitGets
+pub mod GetsServed
+mod ReadTables
+pub mod ServerGets
+pub mod AnsweredGets
+pub mod ClosedSplits
+pub mod ServedMoments
+mod WorkedReads

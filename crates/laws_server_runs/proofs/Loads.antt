@@ -24,6 +24,7 @@ use Rattle.model_partition.specs.Server.{new_range}
 use Rattle.model_histories.specs.ServerRun.{first_history}
 use Rattle.model_histories.specs.StreamActions.{first_start}
 use Rattle.model_histories.specs.ServedTables.{AreSeenAs}
+use Rattle.model_histories.specs.Log.{without_gots}
 use Rattle.laws_loads.proofs.WaitingStays.{new_sound}
 use Rattle.laws_loads.specs.RangeView.{RangeView}
 use Rattle.laws_tables.specs.Runs.{Run, Serving, first_beginning, held as held_by}
@@ -35,6 +36,7 @@ use Rattle.laws_server_runs.proofs.MetadataJobs.{metadata_gives_up}
 use Rattle.laws_server_runs.proofs.RowAppends.{idle_gives_up, give_up_appends, base_given_up}
 use Rattle.model_partition.specs.PlaceReads.{moved_on}
 use Rattle.laws_server_runs.specs.RangeInvariant.{ReadsMetadata, ReadsLog, Matches, StageIs, RangeKept, StreamsKept, AreObserved, Rests, KeptIf, ServesAnew, StepKept}
+use Rattle.laws_server_runs.proofs.GetNotes.{AreGots, try_gots, gots_seen}
 
 -- ---- the same range, but for what nothing is kept of
 
@@ -113,14 +115,14 @@ new_kept texts subject run v d first generation until =
 -- ---- a step that shows nothing
 
 -- where nothing is shown the observations are as they were
-pub silent_seen : (texts : ℕ → Bytes) (subject : ℕ) (run : Run) (before later : List Note) → AreObserved texts subject run before → AreSeenAs texts [] later → AreObserved texts subject run (before ++ later)
+pub silent_seen : (texts : ℕ → Bytes) (subject : ℕ) (run : Run) (before later : List Note) → AreObserved texts subject run before → AreSeenAs texts [] later → AreObserved texts subject run (before ++ without_gots later)
 silent_seen texts subject run before [] old told = subst (λ notes. AreObserved texts subject run notes) (sym (append-nil before)) old
 silent_seen texts subject run before (note ∷ later) old told = absurd told
 
--- a step that does nothing with streams and shows nothing
-pub calm_kept : (texts : ℕ → Bytes) (subject : ℕ) (run : Run) (v : RangeView) (r : RangeState) (o : RangeOutcome) → StreamsKept texts run v → o.notes ≡ [] →
+-- a step that does nothing with streams and shows nothing but Gets
+calm_gots : (texts : ℕ → Bytes) (subject : ℕ) (run : Run) (v : RangeView) (r : RangeState) (o : RangeOutcome) → StreamsKept texts run v → (range g : ℕ) → AreGots range g o.notes →
     KeptIf texts subject run v r.load.generation o.after → ServesAnew texts run r o.after → StepKept texts subject run v r [] o
-calm_kept texts subject run v r o streams quiet kept anew = record {
+calm_gots texts subject run v r o streams range g gots kept anew = record {
   next = run;
   goes = Rests;
   alone = inl refl;
@@ -128,8 +130,13 @@ calm_kept texts subject run v r o streams quiet kept anew = record {
   streams = streams;
   longer = ([], refl);
   anew = anew;
-  seen = λ before later old told. silent_seen texts subject run before later old (subst (λ notes. AreSeenAs texts notes later) quiet told);
+  seen = λ before later old told. gots_seen texts subject run range g o.notes before later gots old told;
 }
+
+-- or nothing at all
+pub calm_kept : (texts : ℕ → Bytes) (subject : ℕ) (run : Run) (v : RangeView) (r : RangeState) (o : RangeOutcome) → StreamsKept texts run v → o.notes ≡ [] →
+    KeptIf texts subject run v r.load.generation o.after → ServesAnew texts run r o.after → StepKept texts subject run v r [] o
+calm_kept texts subject run v r o streams quiet kept anew = calm_gots texts subject run v r o streams 0 0 (subst (AreGots 0 0) (sym quiet) tt) kept anew
 
 module _ (texts : ℕ → Bytes) (subject : ℕ) (run : Run) (v : RangeView) (r : RangeState) (kept : RangeKept texts subject run v r) (streams : StreamsKept texts run v) (d : ServerContext) where
   -- nothing is done with a stream, and the range stays at its stage
@@ -144,7 +151,13 @@ module _ (texts : ℕ → Bytes) (subject : ℕ) (run : Run) (v : RangeView) (r 
 
   gets_kept : (from : ActorId) (q : ReqNo) (key : List ℕ) (fault : Option Refusal) → StepKept texts subject run v r [] (gets d r from q key fault)
   gets_kept from q key (Some refusal) = rests_kept r.until r.metadata r.log r.gets r.held _ _ (λ e. e) (λ e a. a) (λ e. e) refl (λ h. h)
-  gets_kept from q key None = rests_kept r.until r.metadata r.log _ _ _ _ (λ e. e) (λ e a. a) (λ e. e) refl (holds_used texts r.held r.indexes key (standing r key))
+  gets_kept from q key None =
+      calm_gots texts subject run v r (gets d r from q key None) streams r.load.range r.load.generation (try_gots d r (record { from = from; request = q; key = key; reads = [] })) (
+        same_kept texts subject run v r r.until r.metadata r.log r.rows r.blob_data r.reading _ _ (λ e. e) (λ e a. a) (λ e. e) refl (λ control a. a) (λ read e. (read, e, refl)) (λ read e. (read, e, refl))
+            (holds_used texts r.held r.indexes key (standing r key)) kept,
+        refl,
+      )
+      (λ serves. inl serves)
 
   -- a Get
   pub get_kept : (from : ActorId) (q : ReqNo) (key : List ℕ) → StepKept texts subject run v r [] (get_rule d r from q key)

@@ -35,12 +35,14 @@ use Rattle.metadata.specs.declared.record.Region.{Region}
 use Rattle.model_histories.specs.IndexContents.{bytes_in}
 use Rattle.model_partition.specs.Loading.{read_of}
 use Rattle.model_partition.specs.Range.{given, picking}
+use Rattle.model_partition.specs.declared.table_note.TableNote.{TableNote}
 use Rattle.model_histories.specs.StreamActions.{PlacedBytes, first_start}
 use Rattle.laws_checkpoints.specs.ShownTables.{AreInstalled, HoldsBytes}
 use Rattle.laws_server_runs.proofs.ClientAnswers.{check_base, read_base}
 use Rattle.laws_server_runs.proofs.IndexOrder.{all_read, next_read, none_read}
 use Rattle.laws_server_runs.proofs.Loads.{silent_seen}
 use Rattle.laws_server_runs.proofs.Others.{streams_same}
+use Rattle.laws_server_runs.proofs.GetNotes.{AreGots, gots_seen}
 
 -- a position that is found is one of the log
 begins_in : (s : RangeState) (regions : List Region) → is_some (first_position s regions) ≡ true → s.log.base ≤ (first_start regions).index
@@ -79,10 +81,10 @@ module _ (texts : ℕ → Bytes) (subject : ℕ) (run : Run) (v : RangeView) (r 
         seen = λ before later old told. silent_seen texts subject run before later old told;
       }
 
-  -- the load goes on
-  pub goes_left : (next : RangeState) (count : ℕ) (packets : List Packet) → RangeKept texts subject run view next → next.load.generation ≡ r.load.generation →
-      (is_serving next.stage ≡ true → is_serving r.stage ≡ true) → Left (record { after = Some next; count = count; packets = packets; notes = [] })
-  goes_left next count packets kept generation served =
+  -- the range goes on, and shows Gets
+  pub goes_showing : (next : RangeState) (count : ℕ) (packets : List Packet) (notes : List TableNote) (range g : ℕ) → AreGots range g notes → RangeKept texts subject run view next → next.load.generation ≡ r.load.generation →
+      (is_serving next.stage ≡ true → is_serving r.stage ≡ true) → Left (record { after = Some next; count = count; packets = packets; notes = notes })
+  goes_showing next count packets notes range g gots kept generation served =
       record {
         next = run;
         goes = Rests;
@@ -91,8 +93,13 @@ module _ (texts : ℕ → Bytes) (subject : ℕ) (run : Run) (v : RangeView) (r 
         streams = subst (λ w. StreamsKept texts run w) (sym same) (streams_same texts run v view refl refl streams);
         longer = subst (λ w. IsLonger v.answered w.answered) (sym same) ([], refl);
         anew = λ serves. inl (served serves);
-        seen = λ before later old told. silent_seen texts subject run before later old told;
+        seen = λ before later old told. gots_seen texts subject run range g notes before later gots old told;
       }
+
+  -- the load goes on
+  pub goes_left : (next : RangeState) (count : ℕ) (packets : List Packet) → RangeKept texts subject run view next → next.load.generation ≡ r.load.generation →
+      (is_serving next.stage ≡ true → is_serving r.stage ≡ true) → Left (record { after = Some next; count = count; packets = packets; notes = [] })
+  goes_left next count packets kept generation served = goes_showing next count packets [] 0 0 tt kept generation served
 
   -- a state of the load, as of this range
   pub record IsLoading (s : RangeState) : Type 0 where

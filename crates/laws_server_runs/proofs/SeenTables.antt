@@ -1,7 +1,7 @@
 -- What servers show can be seen: each table that is loaded has rows, whatever bytes its values have.
 use Rattle.std.proofs.Common.{◌≡◌, ℕ, List, [], ◌∷◌, is_eq, refl}
 use Rattle.wire.specs.declared.note.Note.{Note}
-use Rattle.wire.specs.declared.note.Note.TheVariants.{Began, Done, Loaded}
+use Rattle.wire.specs.declared.note.Note.TheVariants.{Began, Done, Loaded, Got}
 use Rattle.wire.specs.declared.rows.Row.{Row}
 use Rattle.memtable.specs.declared.cell.Cell.TheVariants.{Deleted, Inline, Placed}
 use Rattle.memtable.specs.Entries.{Entries, key_cmp}
@@ -43,11 +43,13 @@ module _ (texts : ℕ → Bytes) where
   seen_as [] = []
   seen_as (tables.Began range generation number changes ∷ notes) = Began range generation number changes ∷ seen_as notes
   seen_as (tables.Done range generation number ∷ notes) = Done range generation number ∷ seen_as notes
+  seen_as (tables.Got range generation key value ∷ notes) = Got range generation key value ∷ seen_as notes
   seen_as (tables.Loaded range generation table next ∷ notes) = Loaded range generation (rows_at (entries_in texts table)) next ∷ seen_as notes
 
   pub all_seen : (notes : List TableNote) → AreSeenAs texts notes (seen_as notes)
   all_seen [] = tt
   all_seen (tables.Began range generation number changes ∷ notes) = (refl, all_seen notes)
   all_seen (tables.Done range generation number ∷ notes) = (refl, all_seen notes)
+  all_seen (tables.Got range generation key value ∷ notes) = (refl, all_seen notes)
   all_seen (tables.Loaded range generation table next ∷ notes) =
       ((rows_at (entries_in texts table), refl, λ key. rows_are (entries_in texts table) (table_ordered table) key), all_seen notes)

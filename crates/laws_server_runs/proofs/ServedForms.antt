@@ -12,7 +12,7 @@ use Rattle.model_streams.proofs.Tests.{if_elim}
 use Rattle.model_partition.specs.declared.server_context.ServerContext.{ServerContext}
 use Rattle.model_partition.specs.Past.{Bytes, Transaction}
 use Rattle.model_partition.specs.Lines.{next_after}
-use Rattle.model_histories.specs.Log.{begins_of}
+use Rattle.model_histories.specs.Log.{begins_of, without_gots}
 use Rattle.model_histories.specs.Story.{StreamEvent, Made}
 use Rattle.model_partition.specs.Range.{OutGroup, RangeState, RangeOutcome, request, goes, given, picking, if_there, is_serving}
 use Rattle.model_partition.specs.Serving.{record_of, began, group_count, appends, forms}
@@ -31,6 +31,7 @@ use Rattle.laws_server_runs.specs.RangeInvariant.{append_of, Matches, Serves, Ra
 use Rattle.laws_server_runs.proofs.Loads.{calm_kept}
 use Rattle.laws_server_runs.proofs.Others.{serving_on}
 use Rattle.laws_server_runs.proofs.ServedNotes.{same_here, begun_seen, observed_formed, kept_served}
+use Rattle.laws_server_runs.proofs.GetNotes.{begins_plain}
 
 module _ (texts : ℕ → Bytes) (subject : ℕ) where
   -- the first n transactions of the queue are the next group, whatever becomes of the log's client
@@ -114,11 +115,12 @@ module _ (texts : ℕ → Bytes) (subject : ℕ) where
     }
 
     formed_seen : r.load.range ≡ subject → (before later : List Note) → AreObserved texts subject run before → AreSeenAs texts (began r.load.range r.load.generation r.next (take n r.queue)) later →
-        AreObserved texts subject formed_run (before ++ later)
+        AreObserved texts subject formed_run (before ++ without_gots later)
     formed_seen range before later old seen =
         let g : ℕ = r.load.generation in
-        let here : later ≡ begins_of subject g r.next (map (λ t. t.changes) (take n r.queue)) =
-        begun_seen texts subject g r.next (take n r.queue) later (subst (λ z. AreSeenAs texts (began z g r.next (take n r.queue)) later) range seen) in
+        let here : without_gots later ≡ begins_of subject g r.next (map (λ t. t.changes) (take n r.queue)) =
+        ap without_gots (begun_seen texts subject g r.next (take n r.queue) later (subst (λ z. AreSeenAs texts (began z g r.next (take n r.queue)) later) range seen))
+        ∙ begins_plain subject g r.next (map (λ t. t.changes) (take n r.queue)) in
         subst (λ (l : List Note). AreObserved texts subject formed_run (before ++ l)) (ap (λ (x : Numbered Transaction). begins_of subject g x.first x.items) spells ∙ sym here)
         (observed_formed texts subject run g group before old)
 

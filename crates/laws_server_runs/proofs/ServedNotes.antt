@@ -11,7 +11,7 @@ use Rattle.model_partition.specs.declared.stage.Stage.TheVariants as stages
 use Rattle.model_partition.specs.declared.table_note.TableNote.{TableNote}
 use Rattle.model_partition.specs.declared.waiting.WaitingTransaction.{WaitingTransaction}
 use Rattle.model_partition.specs.Past.{Bytes, Transaction}
-use Rattle.model_histories.specs.Log.{begins_of, dones_of, dones_at}
+use Rattle.model_histories.specs.Log.{begins_of, dones_of, dones_at, without_gots}
 use Rattle.model_histories.specs.Story.{Made, event_at}
 use Rattle.model_partition.specs.Range.{RangeState, RangeOutcome, is_serving}
 use Rattle.model_partition.specs.Serving.{began, dones, after_these}
@@ -21,6 +21,7 @@ use Rattle.laws_loads.specs.Sound.{IsSound}
 use Rattle.laws_loads.specs.RangeView.{RangeView, view_after, view_after_all}
 use Rattle.laws_tables.specs.Runs as chains
 use Rattle.laws_tables.specs.Runs.{Run, first_beginning, held, seen}
+use Rattle.laws_tables.proofs.WithoutGots.{without-append}
 use Rattle.laws_checkpoints.specs.ShownTables.{HoldsBytes}
 use Rattle.laws_server_runs.specs.RangeInvariant.{Matches, Serves, PhaseIs, StageIs, RangeKept, StreamsKept, AreObserved, GoesOn, Rests, Adds, KeptIf, ServesAnew, StepKept}
 
@@ -149,5 +150,7 @@ module _ (texts : ℕ → Bytes) (subject : ℕ) where
         anew = anew_served run r o2.after serving;
         seen = λ before later is seen.
             let p : Parts o1.notes o2.notes later = seen_parts o1.notes o2.notes later seen in
-            subst (AreObserved texts subject s2.next) (append_assoc before p.0 p.1 ∙ ap (λ l. before ++ l) (sym p.2)) (s2.seen (before ++ p.0) p.1 (s1.seen before p.0 is p.3) p.4);
+            subst (AreObserved texts subject s2.next)
+            (append_assoc before (without_gots p.0) (without_gots p.1) ∙ ap (λ l. before ++ l) (sym (without-append p.0 p.1) ∙ ap without_gots (sym p.2)))
+            (s2.seen (before ++ without_gots p.0) p.1 (s1.seen before p.0 is p.3) p.4);
       }

@@ -14,7 +14,7 @@ use Rattle.commitlog.specs.Replay.{Numbered}
 use Rattle.commitlog.proofs.Laws.{record_again}
 use Rattle.replica.specs.Groups.{joined}
 use Rattle.model_partition.specs.Past.{Bytes, Transaction}
-use Rattle.model_histories.specs.Log.{dones_of}
+use Rattle.model_histories.specs.Log.{dones_of, without_gots}
 use Rattle.model_histories.specs.Story.{StreamEvent, Made, Answered, event_at}
 use Rattle.model_histories.specs.StreamMachine.{base}
 use Rattle.model_partition.specs.Range.{OutGroup, RangeState, RangeOutcome, is_serving}
@@ -35,11 +35,12 @@ use Rattle.laws_loads.specs.MemoryLayers.{layer_in}
 use Rattle.laws_server_runs.specs.CheckpointInvariant.{parts_of}
 use Rattle.laws_server_runs.specs.RangeInvariant.{append_of, Matches, Serves, RangeKept, StreamsKept, AreObserved, Rests, Adds, StepKept}
 use Rattle.laws_server_runs.proofs.HeldCheckpoints.{longer_holds}
-use Rattle.laws_server_runs.proofs.HeldLine.{out_made}
+use Rattle.laws_tables.proofs.RunLines.{out_made}
 use Rattle.laws_server_runs.proofs.LayerCells.{all_transactions}
 use Rattle.laws_server_runs.proofs.Others.{serving_on}
 use Rattle.laws_server_runs.proofs.Replaying.{values_stand}
 use Rattle.laws_server_runs.proofs.ServedNotes.{same_here, dones_seen, observed_logged, kept_served}
+use Rattle.laws_server_runs.proofs.GetNotes.{dones_plain}
 
 module _ (texts : ℕ → Bytes) (subject : ℕ) (run : Run) (v : RangeView) (r : RangeState) (k : Serves texts run v r) (out : OutGroup) (is : r.out ≡ Some out) (fits : OutFits (Some out)) where
   abbrev generation : ℕ
@@ -148,10 +149,11 @@ module _ (texts : ℕ → Bytes) (subject : ℕ) (run : Run) (v : RangeView) (r 
     }
 
     stood_seen : r.load.range ≡ subject → (before later : List Note) → AreObserved texts subject run before →
-        AreSeenAs texts (dones r.load.range generation out.first out.transactions) later → AreObserved texts subject stood_run (before ++ later)
+        AreSeenAs texts (dones r.load.range generation out.first out.transactions) later → AreObserved texts subject stood_run (before ++ without_gots later)
     stood_seen range before later old seen =
-        let here : later ≡ dones_of subject generation out.first transactions =
-        dones_seen texts subject generation out.first out.transactions later (subst (λ z. AreSeenAs texts (dones z generation out.first out.transactions) later) range seen) in
+        let here : without_gots later ≡ dones_of subject generation out.first transactions =
+        ap without_gots (dones_seen texts subject generation out.first out.transactions later (subst (λ z. AreSeenAs texts (dones z generation out.first out.transactions) later) range seen))
+        ∙ dones_plain subject generation out.first transactions in
         subst (λ (l : List Note). AreObserved texts subject stood_run (before ++ l)) (ap (λ (x : Numbered Transaction). dones_of subject generation x.first x.items) spells ∙ sym here)
         (observed_logged texts subject run append (place_number at) end generation group before (out_made first_beginning generation run (record { append = append; group = group }) out_is) old)
 

@@ -26,6 +26,7 @@ use Rattle.model_histories.specs.Renaming.{renamed_event, one_record, decoded_re
 use Rattle.model_histories.specs.ServerRun.{place_number}
 use Rattle.model_histories.specs.ServedTables.{AreSeenAs}
 use Rattle.model_histories.specs.StreamActions.{StreamAction, Reads, Forms, Stands, Shows, Finds, Stores, last_position, split_group}
+use Rattle.model_histories.specs.Log.{without_gots}
 use Rattle.laws_loads.proofs.Renaming.{mapped_length}
 use Rattle.laws_loads.specs.RangeView.{RangeView, SplitStage, Free, Drains, Recording, view_after, view_after_all, metadata_of}
 use Rattle.laws_tables.specs.Runs as chains
@@ -124,7 +125,7 @@ module _ (texts : ℕ → Bytes) (subject : ℕ) where
         streams = subst (StreamsKept texts m.next) whole m.streams;
         longer = subst (λ (w : RangeView). IsLonger v.answered w.answered) whole (longer_twice v.answered mid.answered last.answered longer_own m.longer);
         anew = anew_served texts subject run r after serving;
-        seen = λ before later old told. m.seen (before ++ later) (s.seen before later old told);
+        seen = λ before later old told. m.seen (before ++ without_gots later) (s.seen before later old told);
       }
 
   -- a step of the split alone
@@ -141,7 +142,7 @@ module _ (texts : ℕ → Bytes) (subject : ℕ) where
     seen = λ before later old told. silent before later (m.seen before old) told;
   }
     where
-      silent : (before later : List Note) → AreObserved texts subject m.next before → AreSeenAs texts [] later → AreObserved texts subject m.next (before ++ later)
+      silent : (before later : List Note) → AreObserved texts subject m.next before → AreSeenAs texts [] later → AreObserved texts subject m.next (before ++ without_gots later)
       silent before [] old told = subst (AreObserved texts subject m.next) (sym (append-nil before)) old
       silent before (note ∷ later) old told = absurd told
 

@@ -45,7 +45,7 @@ module _ (texts : ℕ → Bytes) (batch servers : ℕ) (h : List Note) where
         CameOf texts (run_of batch servers l) h (all_members texts batch servers l born order) p r) (sym s.is)
         (λ b o sees shared. came s.server p r s.after s.until b o sees s.split s.told shared) born order seen s.shared
 
-    all_came : AreUnborn first_range events → HasNoBirth first_range h → AllAreBorn texts batch servers h events order → AllCame texts (run_of batch servers events) h member
+    pub all_came : AreUnborn first_range events → HasNoBirth first_range h → AllAreBorn texts batch servers h events order → AllCame texts (run_of batch servers events) h member
     all_came unnumbered unborn all r =
         ⊎_elim {C = (only r h ≡ []) ⊎ (IsEldest texts (run_of batch servers events) h member r ⊎ ((p : ℕ) × CameOf texts (run_of batch servers events) h member p r))} (λ none. inl none)
         (λ known. inr (⊎_elim {C = IsEldest texts (run_of batch servers events) h member r ⊎ ((p : ℕ) × CameOf texts (run_of batch servers events) h member p r)}

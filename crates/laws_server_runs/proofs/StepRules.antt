@@ -46,6 +46,7 @@ tables_on : (Old New : ShownTable → Type 0) → ((table : ShownTable) → Old 
 tables_on Old New on [] all = tt
 tables_on Old New on (tables.Began range generation number changes ∷ notes) all = tables_on Old New on notes all
 tables_on Old New on (tables.Done range generation number ∷ notes) all = tables_on Old New on notes all
+tables_on Old New on (tables.Got range generation key value ∷ notes) all = tables_on Old New on notes all
 tables_on Old New on (tables.Loaded range generation table next ∷ notes) all = (on table all.0, tables_on Old New on notes all.1)
 
 -- ---- a range that is split

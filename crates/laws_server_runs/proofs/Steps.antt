@@ -6,7 +6,7 @@ use Rattle.wire.specs.declared.packet.Packet.{Packet}
 use Rattle.model_streams.specs.Maps.{entry_at}
 use Rattle.model_partition.specs.declared.stage.Stage.{Stage}
 use Rattle.model_partition.specs.declared.stage.Stage.TheVariants as stages
-use Rattle.model_histories.specs.Log.{only}
+use Rattle.model_histories.specs.Log.{only, without_gots}
 use Rattle.model_partition.specs.Past.{Bytes}
 use Rattle.model_partition.specs.Range.{RangeState, RangeOutcome, is_serving}
 use Rattle.model_partition.specs.Server.{ServerState, range_of, split_of}
@@ -51,7 +51,7 @@ module _ (texts : ℕ → Bytes) (subject : ℕ) where
   module _ (taken : Taken) (x : ServerRun) (k : RunBehind texts subject taken x) (s : ℕ) (cell : ServerCell) (st : ServerState) (at : entry_at x.servers s ≡ Some cell) (is : cell.state ≡ Some st)
       (r : RangeState) (held : range_of st.ranges subject ≡ Some r) (actions : List StreamAction) (o : RangeOutcome) (later : Option SplitJob)
       (step : TurnKept texts subject k.run (view_at subject x s) r actions o later)
-      (own_seen : (notes : List Note) → AreSeenAs texts o.notes notes → only subject notes ≡ notes)
+      (own_seen : (notes : List Note) → AreSeenAs texts o.notes notes → only subject notes ≡ without_gots notes)
       (after : ServerState) (left : range_of after.ranges subject ≡ o.after) (left_split : split_of after.splits subject ≡ later) (packets : List Packet) where
     abbrev g : ℕ
     g = r.load.generation
@@ -177,9 +177,9 @@ module _ (texts : ℕ → Bytes) (subject : ℕ) where
     all_seen notes seen =
         let b : SeenBoth texts y.notes o.notes notes = seen_both texts y.notes o.notes notes seen in
         let old : AreObserved texts subject k.run (taken.notes ++ only subject b.before) = k.seen b.before (subst (λ l. AreSeenAs texts l b.before) (actions_rest s subject g x actions).1 b.first_seen) in
-        let new : AreObserved texts subject step.next ((taken.notes ++ only subject b.before) ++ b.later) = step.seen (taken.notes ++ only subject b.before) b.later old b.second_seen in
-        let all : only subject notes ≡ only subject b.before ++ b.later = ap (only subject) b.is ∙ only_both subject b.before b.later ∙ ap (λ l. only subject b.before ++ l) (own_seen b.later b.second_seen) in
-        subst (λ l. AreObserved texts subject step.next l) (append_assoc taken.notes (only subject b.before) b.later ∙ sym (ap (λ l. taken.notes ++ l) all)) new
+        let new : AreObserved texts subject step.next ((taken.notes ++ only subject b.before) ++ without_gots b.later) = step.seen (taken.notes ++ only subject b.before) b.later old b.second_seen in
+        let all : only subject notes ≡ only subject b.before ++ without_gots b.later = ap (only subject) b.is ∙ only_both subject b.before b.later ∙ ap (λ l. only subject b.before ++ l) (own_seen b.later b.second_seen) in
+        subst (λ l. AreObserved texts subject step.next l) (append_assoc taken.notes (only subject b.before) (without_gots b.later) ∙ sym (ap (λ l. taken.notes ++ l) all)) new
 
     -- ---- what was loaded
 

@@ -46,7 +46,7 @@ use Rattle.laws_server_runs.proofs.Unmerged.{HaveNoMerges, unmerged}
 -- ---- runs and stories
 
 -- a generation that is loaded in a part is served
-load_serves : (g : ℕ) (own taken : Run) → HasLoad g own → IsServing (own ++ taken) g
+pub load_serves : (g : ℕ) (own taken : Run) → HasLoad g own → IsServing (own ++ taken) g
 load_serves g [] taken h = absurd h
 load_serves g (Forms i group ∷ own) taken h = serving_on (Forms i group) (own ++ taken) g (load_serves g own taken h)
 load_serves g (Logged i append from to ∷ own) taken h = serving_on (Logged i append from to) (own ++ taken) g (load_serves g own taken h)
@@ -73,7 +73,7 @@ effect_notes s x (Does range g actions) = (actions_rest s range g x actions).1
 effect_notes s x (Tells g sides) = (sides_rest s g x sides).1
 effect_notes s x Rests = refl
 
-notes_on : (x : ServerRun) (event : ServerEvent) → (more : List TableNote) × ((after_event x event).notes ≡ x.notes ++ more)
+pub notes_on : (x : ServerRun) (event : ServerEvent) → (more : List TableNote) × ((after_event x event).notes ≡ x.notes ++ more)
 notes_on x (Takes s p) = ((server_takes x.servers s p).notes, ap (λ l. l ++ (server_takes x.servers s p).notes) (effect_notes s x (cell_effect p (entry_at x.servers s))))
 notes_on x (GivesUp s range pick) = (_, refl)
 notes_on x (Checkpoints s range combine) = (_, refl)

@@ -2,7 +2,7 @@
 use Rattle.std.proofs.Common.{◌≡◌, ◌⊎◌, ℕ, List, [], ◌∷◌, Some, None, refl, sym, ap, ◌∙◌, subst, inl, inr}
 use Rattle.wire.specs.declared.note.Note.{Note}
 use Rattle.model_partition.specs.Loading.{Group}
-use Rattle.model_histories.specs.Log.{only}
+use Rattle.model_histories.specs.Log.{only, without_gots}
 use Rattle.model_partition.specs.Past.{Bytes, Replays, table_notes, first_range}
 use Rattle.model_partition.specs.Range.{RangeState}
 use Rattle.model_histories.specs.Renaming.{decoded, decoded_record}
@@ -13,6 +13,7 @@ use Rattle.model_histories.specs.ServedTables.{AreFirst, AreUnborn, AreSeenAs, S
 use Rattle.laws_loads.proofs.Renaming.{renamed_keeps}
 use Rattle.laws_tables.proofs.Ends.{renamed_ends_rise}
 use Rattle.laws_tables.proofs.Final.{tables_of_first_range_replay}
+use Rattle.laws_tables.proofs.WithoutGots.{tables_without, with_gots}
 use Rattle.laws_checkpoints.specs.IndexLayers.{layer_at}
 use Rattle.laws_server_runs.specs.RangeInvariant.{Serves, StreamsKept, InOrder, AreObserved}
 use Rattle.laws_server_runs.specs.RunInvariant.{view_at, with_stage, HeldKept, AreApart, nothing_taken, RunKept}
@@ -91,11 +92,11 @@ module _ (texts : ℕ → Bytes) (batch servers : ℕ) where
       let x : ServerRun = run_of batch servers events in
       let k : RunKept texts first_range x = all_kept texts first_range batch servers events apart order in
       let o : AreObserved texts first_range k.run (only first_range (table_notes h)) = k.seen (table_notes h) seen in
-      tables_of_first_range_replay (layer_at texts) o.0 k.run h k.streams.chain (keeps_keys k.run (x.story (metadata_name first_range)) k.streams.metadata (unnamed first_range batch servers events apart)) o.1
+      with_gots h (tables_of_first_range_replay (layer_at texts) o.0 k.run (without_gots h) k.streams.chain (keeps_keys k.run (x.story (metadata_name first_range)) k.streams.metadata (unnamed first_range batch servers events apart)) o.1
       (subst (λ z. KeepsOrder z) (sym k.streams.log) (renamed_keeps decoded (x.story (log_name first_range)) order.log))
       (subst (λ z. EndsRise z) (sym k.streams.log) (renamed_ends_rise decoded (x.story (log_name first_range)) order.ends))
       (subst (λ z. KeepsOrder z) (sym k.streams.metadata) (renamed_keeps decoded_record (x.story (metadata_name first_range)) order.metadata))
-      (sym (only_first texts batch servers events first (table_notes h) seen) ∙ o.2)
+      (tables_without h ∙ sym (only_first texts batch servers events first (table_notes h) seen) ∙ o.2))
 
   -- and no split makes it
   pub run_replays : (events : List ServerEvent) (h : List Note) → AreUnborn first_range events → AreFirst events → StreamsInOrder texts first_range (run_of batch servers events) →

@@ -246,6 +246,7 @@ OfOthers range [] = Unit {0}
 OfOthers range (tables.Began other generation number changes ∷ told) = ((range == other) ≡ false) × OfOthers range told
 OfOthers range (tables.Done other generation number ∷ told) = ((range == other) ≡ false) × OfOthers range told
 OfOthers range (tables.Loaded other generation table next ∷ told) = ((range == other) ≡ false) × OfOthers range told
+OfOthers range (tables.Got other generation key value ∷ told) = ((range == other) ≡ false) × OfOthers range told
 
 -- where an observation is not of a range, the rest is what is told of it
 pub rest : (range : ℕ) (note : Note) (notes : List Note) → is_of range note ≡ false → only range notes ≡ [] → only range (note ∷ notes) ≡ []
@@ -262,6 +263,8 @@ told_none texts range (tables.Done other generation number ∷ told) (note ∷ n
     rest range note notes (ap (is_of range) seen.0 ∙ others.0) (told_none texts range told notes others.1 seen.1)
 told_none texts range (tables.Loaded other generation table next ∷ told) (note ∷ notes) others seen =
     rest range note notes (ap (is_of range) seen.0.1 ∙ others.0) (told_none texts range told notes others.1 seen.1)
+told_none texts range (tables.Got other generation key value ∷ told) (note ∷ notes) others seen =
+    rest range note notes (ap (is_of range) seen.0) (told_none texts range told notes others.1 seen.1)
 
 may_build : (texts : ℕ → Bytes) (source range : ℕ) (x : ServerRun) → AtState (WaitsAt source range) x.servers → ((kind : StreamKind) → x.story (stream_named range kind) ≡ []) → OfOthers range x.notes → MayBuild texts source range x
 may_build texts source range x waits story others =

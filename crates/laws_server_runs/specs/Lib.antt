@@ -11,3 +11,4 @@ pub mod FamilyMembers
 pub mod OwnKeys
 pub mod BornRanges
 pub mod Answerers
+pub mod Reads

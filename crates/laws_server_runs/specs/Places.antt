@@ -82,6 +82,7 @@ abbrev pub NoteWithin : ℕ → ℕ → List PlacedBytes → TableNote → Type 
 NoteWithin k g placed (tables.Began range generation number changes) = (range ≡ k) × (generation ≡ g)
 NoteWithin k g placed (tables.Done range generation number) = (range ≡ k) × (generation ≡ g)
 NoteWithin k g placed (tables.Loaded range generation table next) = (range ≡ k) × (generation ≡ g) × IsLaid placed table.live
+NoteWithin k g placed (tables.Got range generation key value) = (range ≡ k) × (generation ≡ g)
 
 abbrev pub NotesWithin : ℕ → ℕ → List PlacedBytes → List TableNote → Type 0
 NotesWithin k g placed [] = Unit {0}

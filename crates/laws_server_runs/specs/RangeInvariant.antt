@@ -38,6 +38,7 @@ use Rattle.model_histories.specs.Renaming.{renamed, decoded, decoded_record}
 use Rattle.model_histories.specs.StreamActions.{ExtentRead, StreamAction, group_of, first_start}
 use Rattle.model_histories.specs.ServerRun.{RangeHistory, place_number}
 use Rattle.model_histories.specs.ServedTables.{AllStand, AreSeenAs, LoadsOnce}
+use Rattle.model_histories.specs.Log.{without_gots}
 use Rattle.laws_loads.specs.Sound.{IsSound}
 use Rattle.laws_loads.specs.MemoryLayers.{layer_in}
 use Rattle.laws_loads.specs.RangeView.{RangeView, view_after_all, log_of, metadata_of}
@@ -296,4 +297,4 @@ module _ (texts : ℕ → Bytes) where
     pub streams : StreamsKept next (view_after_all r.load.generation v actions)
     pub longer : IsLonger v.answered (view_after_all r.load.generation v actions).answered
     pub anew : ServesAnew run r o.after
-    pub seen : (before later : List Note) → AreObserved subject run before → AreSeenAs texts o.notes later → AreObserved subject next (before ++ later)
+    pub seen : (before later : List Note) → AreObserved subject run before → AreSeenAs texts o.notes later → AreObserved subject next (before ++ without_gots later)

@@ -2,7 +2,7 @@
 use Rattle.std.specs.Prelude.{◌≡◌, ◌⊎◌, ℕ, suc, ◌^◌, true, nat_lt, List, [], ◌∷◌, ◌++◌, Option, Some, None}
 use Rattle.wire.specs.declared.note.Note.{Note}
 use Rattle.model_streams.specs.Maps.{entry_at}
-use Rattle.model_histories.specs.Log.{only}
+use Rattle.model_histories.specs.Log.{without_gots, only}
 use Rattle.model_partition.specs.Past.{Bytes}
 use Rattle.model_partition.specs.declared.split_job.SplitJob.{SplitJob}
 use Rattle.model_partition.specs.declared.split_job.SplitPhase.{SplitPhase}
@@ -126,4 +126,4 @@ module _ (texts : ℕ → Bytes) (subject : ℕ) where
     pub streams : StreamsKept texts next (view_after_all r.load.generation v actions)
     pub longer : IsLonger v.answered (view_after_all r.load.generation v actions).answered
     pub anew : ServesAnew texts run r o.after
-    pub seen : (before later : List Note) → AreObserved texts subject run before → AreSeenAs texts o.notes later → AreObserved texts subject next (before ++ later)
+    pub seen : (before later : List Note) → AreObserved texts subject run before → AreSeenAs texts o.notes later → AreObserved texts subject next (before ++ without_gots later)

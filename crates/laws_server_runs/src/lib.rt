@@ -12,6 +12,11 @@
 //! A range whose streams were built of another's takes what that one's run was then (`ChildTheorem`), while nothing is out there nor formed
 //! since (`ClosedRanges`, `FormedGroups`). Where each range of which anything is told is the first one, or such a one whose split waited
 //! for its end, and the map says so, all that is told replays (`FamilyMembers`, `CompletedSplits`, `SplitsReplay`).
+//! Gets wait only at ranges that are served, and their keys are the range's (`GetsServed`); each that is answered shows the table of the line that
+//! its generation has come to, while the lease lasts and nothing has paused the range (`AnsweredGets`). What is kept of a range that is served
+//! at a moment goes on from there (`ServedMoments`), and all that is told of it comes under generations that it was loaded under (`FamilyLoads`);
+//! a split that waited for its end has closed its range since (`ClosedSplits`). So a Get that was answered while nothing newer was told is what the
+//! law of families wants of it (`FamilyReads`).
 //! What each step of a checkpoint leaves is proved beside them (`CheckpointSteps`, `CheckpointKept`), also while one that combines merges
 //! the older pages (`CheckpointMerges`), those that the range's cache holds among them (`HeldBytes`). Numbers are any here, where a
 //! server has those of 64 and of 32 bits: the rules test those of a checkpoint, and the end of a log that is served.

@@ -23,7 +23,7 @@ use Rattle.model_partition.specs.declared.pending.Pending.TheVariants as pending
 use Rattle.model_partition.specs.Map.{MapState, range_at, range_of_key, halves_at, union_with, union_at}
 use Rattle.model_partition.specs.MapRules.{assign_fault, assign_rule, renew_fault, renew_rule, has_numbers, begin_split_fault, begin_split_taken, begin_split_rule, complete_split_fault, complete_split_taken, complete_split_rule, begin_merge_fault, begin_merge_taken, begin_merge_rule, complete_merge_fault, complete_merge_rule, route_rule, told as map_told, map_rule}
 use Rattle.model_partition.specs.declared.table_note.TableNote.{TableNote}
-use Rattle.model_partition.specs.declared.table_note.TableNote.TheVariants.{Began, Done, Loaded}
+use Rattle.model_partition.specs.declared.table_note.TableNote.TheVariants.{Began, Done, Loaded, Got}
 use Rattle.model_partition.specs.Servers.{ServersOutcome, told, noted, with_told, server_takes, server_gives_up, server_checkpoints, server_splits, server_merges, server_stops, server_starts}
 use Rattle.model_partition.specs.Cluster.{Cluster, told_by_map, map_performs, map_performs_if, map_takes, delivered_to, delivers, stops, restarts, cluster_after, assigns, renews, shows_moment, cluster_after_all, first_cluster}
 use Rattle.laws_streams.proofs.Invariant.{agree_in_moves, kept_in_moves}
@@ -65,6 +65,7 @@ sent_by w (p ∷ packets) h =
 pub is_shown : (notes : List Note) (note : TableNote) → is_table_note (told notes note) ≡ true
 is_shown notes (Began range generation number changes) = refl
 is_shown notes (Done range generation number) = refl
+is_shown notes (Got range generation key value) = refl
 is_shown notes (Loaded range generation table next) = refl
 
 one_note : (w : StreamSystem) (note : TableNote) → ByMoves w (record w { notes = w.notes ++ told w.notes note ∷ [] })

@@ -148,6 +148,26 @@ log_done_tidy d r (Some out) extent offset = applies_tidy d r out extent offset
 
 -- ---- Gets
 
+-- what a try shows is no loaded table
+place_plain : (d : ServerContext) (g : WaitingGet) (page : Bool) (place : Place) (places : Option Nodes) → ArePlain (asks_place d g page place places).notes
+place_plain d g page place None = tt
+place_plain d g page place (Some places) = tt
+
+answered_plain : (d : ServerContext) (r : RangeState) (g : WaitingGet) (found : Lookup) → ArePlain (answered d r g found).notes
+answered_plain d r g (Is value) = tt
+answered_plain d r g (Needs page place) = place_plain d g page place (places_of r place.extent)
+
+try_plain : (d : ServerContext) (r : RangeState) (g : WaitingGet) → ArePlain (try d r g).notes
+try_plain d r g = go (try_fault d r)
+  where
+    go : (fault : Option Refusal) → ArePlain (try_unless d r g fault).notes
+    go (Some why) = tt
+    go None = answered_plain d r g (look r.held r.indexes g.key (standing r g.key))
+
+try_all_plain : (d : ServerContext) (r : RangeState) (gs : List WaitingGet) → ArePlain (try_all d r gs).notes
+try_all_plain d r [] = tt
+try_all_plain d r (g ∷ gs) = plain_both (try d r g).notes _ (try_plain d r g) (try_all_plain (record d { count = (try d r g).count }) r gs)
+
 asks_place_sends : (d : ServerContext) (g : WaitingGet) (page : Bool) (place : Place) (places : Option Nodes) → AllFromRanges (asks_place d g page place places).packets
 asks_place_sends d g page place None = tt
 asks_place_sends d g page place (Some places) = ((d.server, refl, inl refl), tt)
@@ -169,7 +189,9 @@ try_all_sends d r (g ∷ gs) = all_both (try d r g).packets _ (try_sends d r g) 
 
 gets_tidy : (d : ServerContext) (r : RangeState) (from : ActorId) (q : ReqNo) (key : List ℕ) (fault : Option Refusal) → IsTidy (gets d r from q key fault)
 gets_tidy d r from q key (Some refusal) = (((d.server, refl, inr refl), tt), tt)
-gets_tidy d r from q key None = (try_sends d r (record { from = from; request = q; key = key; reads = [] }), tt)
+gets_tidy d r from q key None =
+    let g : WaitingGet = record { from = from; request = q; key = key; reads = [] } in
+    (try_sends d r g, try_plain d r g)
 
 pub get_tidy : (d : ServerContext) (r : RangeState) (from : ActorId) (q : ReqNo) (key : List ℕ) → IsTidy (get_rule d r from q key)
 get_tidy d r from q key = gets_tidy d r from q key (get_fault d r key)
@@ -177,7 +199,9 @@ get_tidy d r from q key = gets_tidy d r from q key (get_fault d r key)
 bytes_tidy : (d : ServerContext) (r : RangeState) (w : ReqNo) (place : Place) (bytes : List ℕ) → IsTidy (bytes_rule d r w place bytes)
 bytes_tidy d r w place bytes =
     if_elim IsTidy (are_no_page (read_at r.gets w) bytes) _ _ (λ t. (tt, tt))
-    (λ f. (try_all_sends d (record r { held = came r.held (read_at r.gets w) place bytes }) (map (without w) r.gets), tt))
+    (λ f.
+    (let now : RangeState = record r { held = came r.held (read_at r.gets w) place bytes } in
+    (try_all_sends d now (map (without w) r.gets), try_all_plain d now (map (without w) r.gets))))
 
 -- ---- the load
 

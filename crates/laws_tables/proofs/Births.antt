@@ -4,7 +4,7 @@ use Rattle.std.specs.Prelude.{◌||◌, ◌==◌, reverse}
 use Rattle.std.proofs.lemmas.List.{append-nil, reverse-append}
 use Rattle.std.proofs.lemmas.Bool.Decides.{nat_tests}
 use Rattle.wire.specs.declared.note.Note.{Note}
-use Rattle.wire.specs.declared.note.Note.TheVariants.{Acked, SealedAt, Content, Seen, Began, Done, Loaded, Split, Merged}
+use Rattle.wire.specs.declared.note.Note.TheVariants.{Acked, SealedAt, Content, Seen, Began, Done, Loaded, Got, Split, Merged}
 use Rattle.metadata.specs.declared.record.KeyRange.{KeyRange}
 use Rattle.metadata.specs.Fold.{all_keys}
 use Rattle.model_partition.specs.Past.{owners, owners_back, eldest, eldest_back, kin, kin_back, keys_of, keys_back}
@@ -25,6 +25,7 @@ owners_skip r (Split b c d key ∷ xs) ys n = ap (λ z. cond z (r ∷ owners_bac
 owners_skip r (Merged c d e ∷ xs) ys n = owners_skip r xs ys n.1
 owners_skip r (Acked e o grp ∷ xs) ys n = owners_skip r xs ys n.1
 owners_skip r (SealedAt e l ∷ xs) ys n = owners_skip r xs ys n.1
+owners_skip r (Got x g key value ∷ xs) ys n = owners_skip r xs ys n.1
 owners_skip r (Content e k grps ∷ xs) ys n = owners_skip r xs ys n.1
 owners_skip r (Seen e k o bytes ∷ xs) ys n = owners_skip r xs ys n.1
 owners_skip r (Began x g s t ∷ xs) ys n = owners_skip r xs ys n.1
@@ -37,6 +38,7 @@ eldest_skip r (Split b c d key ∷ xs) ys n = ap (λ z. cond z (eldest_back (xs 
 eldest_skip r (Merged c d e ∷ xs) ys n = eldest_skip r xs ys n.1
 eldest_skip r (Acked e o grp ∷ xs) ys n = eldest_skip r xs ys n.1
 eldest_skip r (SealedAt e l ∷ xs) ys n = eldest_skip r xs ys n.1
+eldest_skip r (Got x g key value ∷ xs) ys n = eldest_skip r xs ys n.1
 eldest_skip r (Content e k grps ∷ xs) ys n = eldest_skip r xs ys n.1
 eldest_skip r (Seen e k o bytes ∷ xs) ys n = eldest_skip r xs ys n.1
 eldest_skip r (Began x g s t ∷ xs) ys n = eldest_skip r xs ys n.1
@@ -49,6 +51,7 @@ kin_skip r (Split b c d key ∷ xs) ys n = ap (λ z. cond z (r ∷ kin_back (xs 
 kin_skip r (Merged c d e ∷ xs) ys n = ap (λ z. cond z (r ∷ kin_back (xs ++ ys) c ++ kin_back (xs ++ ys) d) (kin_back (xs ++ ys) r)) n.0 ∙ kin_skip r xs ys n.1
 kin_skip r (Acked e o grp ∷ xs) ys n = kin_skip r xs ys n.1
 kin_skip r (SealedAt e l ∷ xs) ys n = kin_skip r xs ys n.1
+kin_skip r (Got x g key value ∷ xs) ys n = kin_skip r xs ys n.1
 kin_skip r (Content e k grps ∷ xs) ys n = kin_skip r xs ys n.1
 kin_skip r (Seen e k o bytes ∷ xs) ys n = kin_skip r xs ys n.1
 kin_skip r (Began x g s t ∷ xs) ys n = kin_skip r xs ys n.1
@@ -68,6 +71,7 @@ keys_skip r (Merged c d e ∷ xs) ys n =
     ap (λ z. cond z (record { low = (keys_back (xs ++ ys) c).low; high = (keys_back (xs ++ ys) d).high }) (keys_back (xs ++ ys) r)) n.0 ∙ keys_skip r xs ys n.1
 keys_skip r (Acked e o grp ∷ xs) ys n = keys_skip r xs ys n.1
 keys_skip r (SealedAt e l ∷ xs) ys n = keys_skip r xs ys n.1
+keys_skip r (Got x g key value ∷ xs) ys n = keys_skip r xs ys n.1
 keys_skip r (Content e k grps ∷ xs) ys n = keys_skip r xs ys n.1
 keys_skip r (Seen e k o bytes ∷ xs) ys n = keys_skip r xs ys n.1
 keys_skip r (Began x g s t ∷ xs) ys n = keys_skip r xs ys n.1
@@ -212,6 +216,7 @@ self_back (Split b c d key ∷ h) r = go ((r == c) || (r == d)) (self_back h r)
 self_back (Merged c d e ∷ h) r = self_back h r
 self_back (Acked e o grp ∷ h) r = self_back h r
 self_back (SealedAt e l ∷ h) r = self_back h r
+self_back (Got x g key value ∷ h) r = self_back h r
 self_back (Content e k grps ∷ h) r = self_back h r
 self_back (Seen e k o bytes ∷ h) r = self_back h r
 self_back (Began x g s t ∷ h) r = self_back h r

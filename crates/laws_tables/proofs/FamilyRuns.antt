@@ -1,26 +1,32 @@
--- The law of families of runs: what is observed of all ranges that splits made of the first replays.
+-- The law of families of runs: what is observed of all ranges that splits made of the first replays, and Gets that they answer are served.
 use Rattle.std.proofs.Common.{◌≡◌, ℕ, suc, ◌<◌, ◌≤◌, List, [], ◌∷◌, ◌++◌, length, map, cond, Option, Some, None, refl, sym, ap, ◌∙◌, subst, inl, inr, ◌⊎◌, arith, append_assoc}
 use Rattle.wire.specs.declared.note.Note.{Note}
-use Rattle.wire.specs.declared.note.Note.TheVariants.{Loaded}
+use Rattle.wire.specs.declared.note.Note.TheVariants.{Loaded, Got}
 use Rattle.wire.specs.declared.rows.Row.{Row}
 use Rattle.memtable.specs.declared.cell.Place.{Place}
 use Rattle.commitlog.specs.Replay.{Numbered as Group}
 use Rattle.metadata.specs.declared.record.KeyRange.{KeyRange}
 use Rattle.metadata.specs.declared.record.MetaItem.{MetaItem}
 use Rattle.model_histories.specs.Log.{line_shown, begins_of, dones_at, only}
-use Rattle.model_partition.specs.Past.{Bytes, Transaction, empty_table, after_line, stored, kept, keys_of, Replays}
+use Rattle.model_partition.specs.Past.{Bytes, Transaction, empty_table, after_line, stored, kept, keys_of, From_nothing, Replays}
+use Rattle.model_partition.specs.Served.{IsServed}
 use Rattle.model_histories.specs.Story.{Placed, StreamEvent, Made, Answered, Showed, event_at, Copy, placed, whole}
+use Rattle.model_histories.specs.StreamMachine.{In}
 use Rattle.laws_tables.specs.Families.{HasKeys, IsFirst, HasParent, IsFamily}
 use Rattle.laws_tables.specs.Layers.{Layer}
+use Rattle.laws_tables.specs.Reads.{whole_log, IsRead, AreReads, ReplaysAndServes}
 use Rattle.laws_tables.specs.Runs.{Event, Forms, Logged, Notes, Records, Recorded, Trims, Confirms, Run, log_of, first_beginning, ShownLoad, said, next_loaded, shown_at, seen}
 use Rattle.laws_tables.specs.Through.{IsTail, IsAnswered}
 use Rattle.laws_tables.specs.WholeStories.{observed}
 use Rattle.laws_tables.proofs.Final.{first_begins, first_behind}
 use Rattle.laws_tables.proofs.Holds.{LogStory}
+use Rattle.laws_tables.proofs.LinesTo.{AnswersNext, next_tail}
 use Rattle.laws_tables.proofs.Machine.{Inv, inv_of}
-use Rattle.laws_tables.proofs.Members.{in_contains, contains_in}
+use Rattle.laws_tables.proofs.Members.{in_contains, contains_in, in_left}
 use Rattle.laws_tables.proofs.Range.{IsShownAt, older, newest, bound, eq_test, ne_test, made_shown, answered_shown, shown_cases}
-use Rattle.laws_tables.proofs.StoryFamilies.{IsFirstStory, HasStoryParent, StoryFamily, family_replays}
+use Rattle.laws_tables.proofs.RunLines.{answers_next}
+use Rattle.laws_tables.proofs.ServedReads.{IsStoryRead, read_is_served}
+use Rattle.laws_tables.proofs.StoryFamilies.{IsFirstStory, HasStoryParent, StoryFamily, load_line, family_replays, family_past}
 use Rattle.laws_tables.proofs.Whole.{as_whole, whole_length, whole_at, back_made, back_shown, to_answered, whole_order}
 
 abbrev Copies : Type 0
@@ -267,3 +273,53 @@ module _ (layer_at : Place → Layer) (h : List Note) (family : IsFamily layer_a
 
   pub families_replay : Replays h
   families_replay = family_replays h story taken family.rows stories
+
+  past : families_replay.past ≡ (λ r g. From_nothing (load_line (story r) g))
+  unfolding families_replay
+  past = family_past h story taken family.rows stories
+
+  -- ---- answered Gets
+
+  module _ (before : List Note) (r g : ℕ) (key : Bytes) (value : Option Bytes) (q : IsRead layer_at h family before r g key value) where
+    part_is : chain r ≡ q.late ++ (q.early ++ family.taken r)
+    part_is = ap (λ z. z ++ family.taken r) q.parts ∙ append_assoc q.late q.early (family.taken r)
+
+    part_tail : IsTail (whole_log layer_at h family r (q.early ++ family.taken r)) (story r)
+    part_tail =
+        subst (λ z. IsTail (whole_log layer_at h family r (q.early ++ family.taken r)) (whole (Group Transaction) (copies r) z)) (sym (ap log_of part_is ∙ log_append q.late (q.early ++ family.taken r)))
+        (whole_tail (copies r) (log_of q.late) (log_of (q.early ++ family.taken r)))
+
+    part_told : observed r (family.rows r) (whole_log layer_at h family r (q.early ++ family.taken r)) ≡ observed r (family.rows r) (taken r) ++ only r before
+    part_told =
+        sym (seen_whole r (family.rows r) (copies r) (q.early ++ family.taken r) (numbered_tail (copies r) q.late (q.early ++ family.taken r) (subst (AreNumbered (copies r)) part_is (are_numbered r))))
+        ∙ q.told
+        ∙ ap (λ z. z ++ only r before) (seen_whole r (family.rows r) (copies r) (family.taken r) (numbered_tail (copies r) (family.own r) (family.taken r) (are_numbered r)))
+
+    part_next : AnswersNext (whole_log layer_at h family r (q.early ++ family.taken r))
+    part_next =
+        next_tail part_tail.0 (whole_log layer_at h family r (q.early ++ family.taken r))
+        (subst AnswersNext part_tail.1 (answers_next layer_at (copies r) (chain r) (family.range r).runs (inv r).served))
+
+    story_read : (after : List Note) → h ≡ before ++ after → IsStoryRead h story taken family.rows before r g
+    story_read after e = record {
+      point = whole_log layer_at h family r (q.early ++ family.taken r);
+      tail = part_tail;
+      next = part_next;
+      told = part_told;
+      early = λ o i. subst (In o) (sym e) (in_left o before after i);
+      loaded = (q.loaded.0, q.loaded.1, in_contains (Loaded r g q.loaded.0 q.loaded.1) before q.loaded.2);
+      highest = λ o i is. q.highest o (contains_in o before i) is;
+      alone = q.alone;
+    }
+
+    is_served : (after : List Note) → h ≡ before ++ after → IsServed h before (λ r' g'. From_nothing (load_line (story r') g')) r g key value
+    unfolding story_read
+    is_served after e = read_is_served h story taken family.rows stories before r g (story_read after e) key value q.shows
+
+  -- what is loaded replays, and each answered Get is served
+  pub families_serve : AreReads layer_at h family → ReplaysAndServes h
+  families_serve reads = record {
+    replays = families_replay;
+    served = λ before after r g key value e.
+        subst (λ z. IsServed h before z r g key value) (sym past) (is_served before r g key value (reads before after r g key value e) (Got r g key value ∷ after) e);
+  }

@@ -16,6 +16,7 @@ pub mod Machine
 pub mod Members
 pub mod NarrowKeys
 mod Lines
+pub mod LinesTo
 pub mod Loads
 pub mod NeededMoments
 pub mod NeededOrders
@@ -24,6 +25,8 @@ pub mod Others
 pub mod Points
 pub mod Range
 mod Replay
+pub mod RunLines
+pub mod ServedReads
 pub mod StoryFamilies
 pub mod Theorem
 pub mod Through
@@ -31,4 +34,6 @@ pub mod Turns
 pub mod Whole
 pub mod Worked
 pub mod WorkedFamily
+pub mod WorkedReads
 pub mod WorkedRuns
+pub mod WithoutGots

@@ -5,7 +5,7 @@ use Rattle.std.proofs.lemmas.List.{append-nil}
 use Rattle.std.proofs.lemmas.Bool.{cases_eq}
 use Rattle.std.proofs.lemmas.Bool.Decides.{nat_tests}
 use Rattle.wire.specs.declared.note.Note.{Note}
-use Rattle.wire.specs.declared.note.Note.TheVariants.{Acked, SealedAt, Content, Seen, Began, Done, Loaded, Split, Merged}
+use Rattle.wire.specs.declared.note.Note.TheVariants.{Acked, SealedAt, Content, Seen, Began, Done, Loaded, Got, Split, Merged}
 use Rattle.wire.specs.declared.rows.Row.{Row}
 use Rattle.model_partition.specs.Past.{Transaction, begun}
 use Rattle.commitlog.specs.Replay.{Numbered as Group}
@@ -54,6 +54,7 @@ begun-append (Split b c d key ∷ h) ys r g s = begun-append h ys r g s
 begun-append (Merged c d e ∷ h) ys r g s = begun-append h ys r g s
 begun-append (Acked e o grp ∷ h) ys r g s = begun-append h ys r g s
 begun-append (SealedAt e l ∷ h) ys r g s = begun-append h ys r g s
+begun-append (Got r' g' key value ∷ h) ys r g s = begun-append h ys r g s
 begun-append (Content e n grps ∷ h) ys r g s = begun-append h ys r g s
 begun-append (Seen e n o bytes ∷ h) ys r g s = begun-append h ys r g s
 
@@ -485,6 +486,7 @@ begun_only r (Split b c d key ∷ h) g s = begun_only r h g s
 begun_only r (Merged c d e ∷ h) g s = begun_only r h g s
 begun_only r (Acked e o grp ∷ h) g s = begun_only r h g s
 begun_only r (SealedAt e l ∷ h) g s = begun_only r h g s
+begun_only r (Got r' g' key value ∷ h) g s = begun_only r h g s
 begun_only r (Content e n grps ∷ h) g s = begun_only r h g s
 begun_only r (Seen e n o bytes ∷ h) g s = begun_only r h g s
 
@@ -508,5 +510,6 @@ begun_in (Split b c d key ∷ h) r g s u us e = inr (begun_in h r g s u us e)
 begun_in (Merged c d x ∷ h) r g s u us e = inr (begun_in h r g s u us e)
 begun_in (Acked x o grp ∷ h) r g s u us e = inr (begun_in h r g s u us e)
 begun_in (SealedAt x l ∷ h) r g s u us e = inr (begun_in h r g s u us e)
+begun_in (Got r' g' key value ∷ h) r g s u us e = inr (begun_in h r g s u us e)
 begun_in (Content x n grps ∷ h) r g s u us e = inr (begun_in h r g s u us e)
 begun_in (Seen x n o bytes ∷ h) r g s u us e = inr (begun_in h r g s u us e)

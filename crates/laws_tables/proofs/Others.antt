@@ -1,12 +1,14 @@
--- Observations of extents say nothing of tables.
-use Rattle.std.proofs.Common.{◌≡◌, ◌⊎◌, ⊎_elim, ℕ, ◌<◌, List, [], ◌∷◌, ◌++◌, cond, Some, refl, sym, ap, ◌∙◌, subst, inl, inr}
+-- Observations of extents say nothing of tables, nor of what Gets show.
+use Rattle.std.proofs.Common.{◌≡◌, ◌⊎◌, ⊎_elim, ℕ, ◌<◌, List, [], ◌∷◌, ◌++◌, cond, Some, Option, refl, sym, ap, ◌∙◌, subst, inl, inr}
 use Rattle.std.specs.Prelude.{◌&&◌, ◌||◌, ◌==◌, Contains, reverse}
 use Rattle.std.proofs.lemmas.List.{append-nil, reverse-append}
 use Rattle.wire.specs.declared.note.Note.{Note}
-use Rattle.wire.specs.declared.note.Note.TheVariants.{Acked, SealedAt, Content, Seen, Began, Done, Loaded, Split, Merged}
+use Rattle.wire.specs.declared.note.Note.TheVariants.{Acked, SealedAt, Content, Seen, Began, Done, Loaded, Got, Split, Merged}
 use Rattle.metadata.specs.declared.record.KeyRange.{KeyRange}
 use Rattle.model_partition.specs.Past.{Bytes, Transaction, Past, From_nothing, From_pair, owners, owners_back, eldest, eldest_back, kin, kin_back, keys_of, keys_back, kept, union, after_line, empty_table, table_of, begun, AllBegan, AllDone, IsMember, IsPastOf, IsComplete, Replays, table_notes}
+use Rattle.model_partition.specs.Served.{AllDoneBefore, HasAllDone, IsServed}
 use Rattle.model_histories.specs.StreamMachine.{In}
+use Rattle.laws_tables.specs.Reads.{ReplaysAndServes}
 use Rattle.laws_tables.proofs.Members.{in_contains, contains_in}
 
 pub others-append : (xs ys : List Note) → table_notes (xs ++ ys) ≡ table_notes xs ++ table_notes ys
@@ -20,6 +22,7 @@ others-append (Done r g s ∷ h) ys = ap (λ z. Done r g s ∷ z) (others-append
 others-append (Loaded r g rows next ∷ h) ys = ap (λ z. Loaded r g rows next ∷ z) (others-append h ys)
 others-append (Split b c d key ∷ h) ys = ap (λ z. Split b c d key ∷ z) (others-append h ys)
 others-append (Merged c d e ∷ h) ys = ap (λ z. Merged c d e ∷ z) (others-append h ys)
+others-append (Got r g key value ∷ h) ys = ap (λ z. Got r g key value ∷ z) (others-append h ys)
 
 step : (o : Note) (h : List Note) → table_notes (reverse h) ≡ reverse (table_notes h) → table_notes (reverse (o ∷ h)) ≡ reverse (table_notes h) ++ table_notes (o ∷ [])
 step o h ih = ap table_notes (reverse-append (o ∷ []) h) ∙ others-append (reverse h) (o ∷ []) ∙ ap (λ z. z ++ table_notes (o ∷ [])) ih
@@ -35,6 +38,7 @@ others-reverse (Done r g s ∷ h) = step (Done r g s) h (others-reverse h) ∙ s
 others-reverse (Loaded r g rows next ∷ h) = step (Loaded r g rows next) h (others-reverse h) ∙ sym (reverse-append (Loaded r g rows next ∷ []) (table_notes h))
 others-reverse (Split b c d key ∷ h) = step (Split b c d key) h (others-reverse h) ∙ sym (reverse-append (Split b c d key ∷ []) (table_notes h))
 others-reverse (Merged c d e ∷ h) = step (Merged c d e) h (others-reverse h) ∙ sym (reverse-append (Merged c d e ∷ []) (table_notes h))
+others-reverse (Got r g key value ∷ h) = step (Got r g key value) h (others-reverse h) ∙ sym (reverse-append (Got r g key value ∷ []) (table_notes h))
 
 -- ---- families
 
@@ -42,6 +46,7 @@ owners-others : (h : List Note) (r : ℕ) → owners_back h r ≡ owners_back (t
 owners-others [] r = refl
 owners-others (Acked e o grp ∷ h) r = owners-others h r
 owners-others (SealedAt e l ∷ h) r = owners-others h r
+owners-others (Got x y key value ∷ h) r = owners-others h r
 owners-others (Content e n grps ∷ h) r = owners-others h r
 owners-others (Seen e n o bytes ∷ h) r = owners-others h r
 owners-others (Began x g s t ∷ h) r = owners-others h r
@@ -56,6 +61,7 @@ eldest-others : (h : List Note) (r : ℕ) → eldest_back h r ≡ eldest_back (t
 eldest-others [] r = refl
 eldest-others (Acked e o grp ∷ h) r = eldest-others h r
 eldest-others (SealedAt e l ∷ h) r = eldest-others h r
+eldest-others (Got x y key value ∷ h) r = eldest-others h r
 eldest-others (Content e n grps ∷ h) r = eldest-others h r
 eldest-others (Seen e n o bytes ∷ h) r = eldest-others h r
 eldest-others (Began x g s t ∷ h) r = eldest-others h r
@@ -70,6 +76,7 @@ kin-others : (h : List Note) (r : ℕ) → kin_back h r ≡ kin_back (table_note
 kin-others [] r = refl
 kin-others (Acked e o grp ∷ h) r = kin-others h r
 kin-others (SealedAt e l ∷ h) r = kin-others h r
+kin-others (Got x y key value ∷ h) r = kin-others h r
 kin-others (Content e n grps ∷ h) r = kin-others h r
 kin-others (Seen e n o bytes ∷ h) r = kin-others h r
 kin-others (Began x g s t ∷ h) r = kin-others h r
@@ -97,6 +104,7 @@ unfolding low_to high_from from_to
 keys-others [] r = refl
 keys-others (Acked e o grp ∷ h) r = keys-others h r
 keys-others (SealedAt e l ∷ h) r = keys-others h r
+keys-others (Got x y key value ∷ h) r = keys-others h r
 keys-others (Content e n grps ∷ h) r = keys-others h r
 keys-others (Seen e n o bytes ∷ h) r = keys-others h r
 keys-others (Began x g s t ∷ h) r = keys-others h r
@@ -114,6 +122,7 @@ begun-others : (h : List Note) (r g s : ℕ) → begun h r g s ≡ begun (table_
 begun-others [] r g s = refl
 begun-others (Acked e o grp ∷ h) r g s = begun-others h r g s
 begun-others (SealedAt e l ∷ h) r g s = begun-others h r g s
+begun-others (Got x y key value ∷ h) r g s = begun-others h r g s
 begun-others (Content e n grps ∷ h) r g s = begun-others h r g s
 begun-others (Seen e n o bytes ∷ h) r g s = begun-others h r g s
 begun-others (Began x y w t ∷ h) r g s = ap (λ z. cond ((r == x) && ((g == y) && (s == w))) (t ∷ z) z) (begun-others h r g s)
@@ -154,7 +163,9 @@ back x (Loaded r g rows next ∷ h) (inr i) = inr (back x h i)
 back x (Split b c d key ∷ h) (inl e) = inl e
 back x (Split b c d key ∷ h) (inr i) = inr (back x h i)
 back x (Merged c d e ∷ h) (inl q) = inl q
+back x (Got r g key value ∷ h) (inl q) = inl q
 back x (Merged c d e ∷ h) (inr i) = inr (back x h i)
+back x (Got r g key value ∷ h) (inr i) = inr (back x h i)
 
 there : (x : Note) (h : List Note) → IsOfTables x → In x h → In x (table_notes h)
 there x [] is i = i
@@ -175,7 +186,9 @@ there x (Loaded r g rows next ∷ h) is (inr i) = inr (there x h is i)
 there x (Split b c d key ∷ h) is (inl e) = inl e
 there x (Split b c d key ∷ h) is (inr i) = inr (there x h is i)
 there x (Merged c d e ∷ h) is (inl q) = inl q
+there x (Got r g key value ∷ h) is (inl q) = inl q
 there x (Merged c d e ∷ h) is (inr i) = inr (there x h is i)
+there x (Got r g key value ∷ h) is (inr i) = inr (there x h is i)
 
 contains_back : (x : Note) (h : List Note) → Contains (table_notes h) x → Contains h x
 contains_back x h c = contains_in x h (back x h (in_contains x (table_notes h) c))
@@ -237,4 +250,50 @@ with_others h p = record {
   once = λ before after r g rows rows' next next' e c.
       p.once (table_notes before) (table_notes after) r g rows rows' next next' (apart h before after (Loaded r g rows next) refl e)
       (contains_there (Loaded r g rows' next') after refl c);
+}
+
+-- the pasts are the same
+others_past : (h : List Note) (p : Replays (table_notes h)) → (with_others h p).past ≡ p.past
+unfolding with_others
+others_past h p = refl
+
+-- ---- answered Gets
+
+all_done_before : (h before : List Note) (ranges : List ℕ) (line : List Transaction) → AllDoneBefore (table_notes h) (table_notes before) ranges line → AllDoneBefore h before ranges line
+all_done_before h before ranges line d r' g' s own done =
+    let x : (t : Transaction) × (begun (table_notes h) r' g' s ≡ t ∷ []) × IsMember line s t = d r' g' s own (contains_there (Done r' g' s) before refl done) in
+    (x.0, begun-others h r' g' s ∙ x.1, x.2)
+
+has_all_done : (h before : List Note) (r : ℕ) (p : Past) → HasAllDone (table_notes h) (table_notes before) r p → HasAllDone h before r p
+has_all_done h before r (From_nothing line) q =
+    all_done_before h before (owners h r) line (subst (λ z. AllDoneBefore (table_notes h) (table_notes before) z line) (sym (owners_same h r)) q)
+has_all_done h before r (From_pair c a d b line) q = (
+  all_done_before h before (owners h r) line (subst (λ z. AllDoneBefore (table_notes h) (table_notes before) z line) (sym (owners_same h r)) q.0),
+  has_all_done h before c a q.1,
+  has_all_done h before d b q.2,
+)
+
+is_served : (h before : List Note) (past : ℕ → ℕ → Past) (r g : ℕ) (key : Bytes) (value : Option Bytes) →
+    IsServed (table_notes h) (table_notes before) past r g key value → IsServed h before past r g key value
+is_served h before past r g key value q = record {
+  now = q.now;
+  loaded = (q.loaded.0, q.loaded.1, contains_back (Loaded r g q.loaded.0 q.loaded.1) before q.loaded.2);
+  start = q.start;
+  begins = q.begins;
+  further = λ s t m low.
+      let x : (begun (table_notes h) r g s ≡ t ∷ []) × Contains (table_notes before) (Done r g s) = q.further s t m low in
+      (begun-others h r g s ∙ x.0, contains_back (Done r g s) before x.1);
+  done = has_all_done h before r q.now q.done;
+  later = λ r' g' rows next c lt k. q.later r' g' rows next (contains_there (Loaded r' g' rows next) h refl c) lt (subst (λ z. Contains z r) (kin_same h r') k);
+  alone = λ r' g' s k other done. q.alone r' g' s (subst (λ z. Contains z r) (kin_same h r') k) other (contains_there (Done r' g' s) before refl done);
+  shows = q.shows ∙ ap (λ z. z key) (table_same h r q.now);
+}
+
+-- Gets that are served among the observations of tables are served among all
+pub serve_with_others : (h : List Note) → ReplaysAndServes (table_notes h) → ReplaysAndServes h
+serve_with_others h x = record {
+  replays = with_others h x.replays;
+  served = λ before after r g key value e.
+      subst (λ z. IsServed h before z r g key value) (sym (others_past h x.replays))
+      (is_served h before x.replays.past r g key value (x.served (table_notes before) (table_notes after) r g key value (apart h before after (Got r g key value) refl e)));
 }

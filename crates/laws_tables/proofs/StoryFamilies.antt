@@ -45,14 +45,14 @@ tail_in (u ∷ us) xs [] ys e le =
     absurd (omega arith)
 tail_in (u ∷ us) xs (v ∷ vs) ys e le = let t : us ++ xs ≡ vs ++ ys = cc in tail_in us xs vs ys t le
 
-member_longer : (line longer : List Transaction) (s : ℕ) (t : Transaction) → IsMember line s t → IsPrefixOf line longer → IsMember longer s t
+pub member_longer : (line longer : List Transaction) (s : ℕ) (t : Transaction) → IsMember line s t → IsPrefixOf line longer → IsMember longer s t
 member_longer line longer s t m p =
     let sp : (us : List Transaction) × (vs : List Transaction) × (line ≡ us ++ t ∷ vs) × (length us ≡ s - 1) = member_split_at line (s - 1) t m.1 in
     let whole : longer ≡ sp.0 ++ t ∷ (sp.1 ++ p.0) = sym p.1 ∙ ap (λ z. z ++ p.0) sp.2 ∙ append_assoc sp.0 (t ∷ sp.1) p.0 in
     (m.0, ap (λ z. slice_get z (s - 1)) whole ∙ ap (λ n. slice_get (sp.0 ++ t ∷ (sp.1 ++ p.0)) n) (sym sp.3) ∙ get_split sp.0 (sp.1 ++ p.0) t)
 
 -- each transaction of a group that stands in a line is a member of it
-stands_member : (line : List Transaction) (group : Group Transaction) (front back : List Transaction) (t : Transaction) (s : ℕ) → StandsIn line group →
+pub stands_member : (line : List Transaction) (group : Group Transaction) (front back : List Transaction) (t : Transaction) (s : ℕ) → StandsIn line group →
     group.items ≡ front ++ t ∷ back → s ≡ group.first + length front → IsMember line s t
 stands_member line group front back t s st items number =
     let at : suc (length st.before) ≡ group.first = st.at in
@@ -70,7 +70,7 @@ load_line (Made g' group ∷ earlier) g = load_line earlier g
 load_line (Answered a from to ∷ earlier) g = load_line earlier g
 load_line (Showed g' start end groups ∷ earlier) g = cond (eqb g g') (line_shown groups) (load_line earlier g)
 
-load_line_is : (story : LogStory) → IsServed story → (l g s e : ℕ) (xs : List (Placed (Group Transaction))) → IsShownAt Transaction story l g s e xs → load_line story g ≡ line_shown xs
+pub load_line_is : (story : LogStory) → IsServed story → (l g s e : ℕ) (xs : List (Placed (Group Transaction))) → IsShownAt Transaction story l g s e xs → load_line story g ≡ line_shown xs
 load_line_is [] served l g s e xs is = absurd (cc)
 load_line_is (Made g' group ∷ earlier) served l g s e xs is = load_line_is earlier served.1 l g s e xs (made_shown Transaction g' group earlier l g s e xs is)
 load_line_is (Answered a from to ∷ earlier) served l g s e xs is = load_line_is earlier served.1 l g s e xs (answered_shown Transaction a from to earlier l g s e xs is)
@@ -85,7 +85,7 @@ load_line_is (Showed g' start end groups ∷ earlier) served l g s e xs is =
     (shown_cases Transaction g' start end groups earlier l g s e xs is)
 
 -- a load that is observed stands in the story
-loaded_in : (r : ℕ) (rows : ℕ → List Row) (story : LogStory) (g : ℕ) (rs : List Row) (nx : ℕ) → In (Loaded r g rs nx) (observed r rows story) → IsLoaded story g
+pub loaded_in : (r : ℕ) (rows : ℕ → List Row) (story : LogStory) (g : ℕ) (rs : List Row) (nx : ℕ) → In (Loaded r g rs nx) (observed r rows story) → IsLoaded story g
 loaded_in r rows story g rs nx i =
     let s : (front : List Note) × (back : List Note) × (observed r rows story ≡ front ++ Loaded r g rs nx ∷ back) = split_of (Loaded r g rs nx) (observed r rows story) i in
     let at : LoadAt r rows story s.0 r g rs nx = load_at r rows story s.0 s.1 r g rs nx s.2 in
@@ -131,22 +131,22 @@ module _ (h : List Note) (story taken : ℕ → LogStory) (rows : ℕ → ℕ �
     self r = eq_test Transaction r
 
     -- a range of which anything is told is the first, or has a parent
-    told_born : (r : ℕ) (o : Note) → is_of r o ≡ true → In o h → IsMadeOf r
+    pub told_born : (r : ℕ) (o : Note) → is_of r o ≡ true → In o h → IsMadeOf r
     told_born r o is i = elim (f.born r) as (λ x. IsMadeOf r) [
       | inl none ↦ absurd (subst (In o) none (to_only r o h is i))
       | inr b ↦ b
     ]
 
-    in_moment : (p r : ℕ) (q : HasStoryParent p r) (o : Note) → In o q.before → In o h
+    pub in_moment : (p r : ℕ) (q : HasStoryParent p r) (o : Note) → In o q.before → In o h
     in_moment p r q o i = subst (In o) (sym q.moment) (in_left o q.before q.after i)
 
     parent_born : (p r : ℕ) (q : HasStoryParent p r) → IsMadeOf p
     parent_born p r q = told_born p (Loaded p q.generation q.loaded.0 q.loaded.1) (self p) (in_moment p r q (Loaded p q.generation q.loaded.0 q.loaded.1) q.loaded.2)
 
-    of_first : (r : ℕ) (a : IsFirstStory r) (r' : ℕ) → In r' (owners h r) → r' ≡ r
+    pub of_first : (r : ℕ) (a : IsFirstStory r) (r' : ℕ) → In r' (owners h r) → r' ≡ r
     of_first r a r' i = elim (subst (In r') (unborn_owners h r a.unborn) i) as (λ x. r' ≡ r) [ inl e ↦ e | inr never ↦ absurd never ]
 
-    of_child : (p r : ℕ) (q : HasStoryParent p r) (r' : ℕ) → In r' (owners h r) → (r' ≡ r) ⊎ In r' (owners h p)
+    pub of_child : (p r : ℕ) (q : HasStoryParent p r) (r' : ℕ) → In r' (owners h r) → (r' ≡ r) ⊎ In r' (owners h p)
     of_child p r q r' i = subst (In r') (child_owners h p r q.child) i
 
     to_child : (p r : ℕ) (q : HasStoryParent p r) (r' : ℕ) → In r' (owners h p) → In r' (owners h r)
@@ -176,12 +176,12 @@ module _ (h : List Note) (story taken : ℕ → LogStory) (rows : ℕ → ℕ �
         ]
 
     -- of an owner of the parent
-    below : (p r : ℕ) (q : HasStoryParent p r) (r' : ℕ) → In r' (owners h p) → (o : Note) → In o h → is_of r' o ≡ true →
+    pub below : (p r : ℕ) (q : HasStoryParent p r) (r' : ℕ) → In r' (owners h p) → (o : Note) → In o h → is_of r' o ≡ true →
         ((r' ≡ p) × (generation_of o ≤ q.generation)) ⊎ (generation_of o < q.generation)
     below p r q r' own o i is =
         owners_below (suc p) p (omega arith) q.generation q.loaded.0 q.loaded.1 (in_moment p r q (Loaded p q.generation q.loaded.0 q.loaded.1) q.loaded.2) q.highest r' own o i is
 
-    at_most : (p r : ℕ) (q : HasStoryParent p r) (r' : ℕ) → In r' (owners h p) → (o : Note) → In o h → is_of r' o ≡ true → generation_of o ≤ q.generation
+    pub at_most : (p r : ℕ) (q : HasStoryParent p r) (r' : ℕ) → In r' (owners h p) → (o : Note) → In o h → is_of r' o ≡ true → generation_of o ≤ q.generation
     at_most p r q r' own o i is = elim (below p r q r' own o i is) as (λ x. generation_of o ≤ q.generation) [ inl x ↦ x.1 | inr x ↦ omega arith ]
 
     -- ---- moments
@@ -196,7 +196,7 @@ module _ (h : List Note) (story taken : ℕ → LogStory) (rows : ℕ → ℕ �
     ]
 
     -- what began in the part that was taken began before the moment, under an owner of the parent
-    began_before : (n r : ℕ) → r < n → (p : ℕ) (q : HasStoryParent p r) (g s : ℕ) (t : Transaction) → In (Began r g s t) (observed r (rows r) (taken r)) →
+    pub began_before : (n r : ℕ) → r < n → (p : ℕ) (q : HasStoryParent p r) (g s : ℕ) (t : Transaction) → In (Began r g s t) (observed r (rows r) (taken r)) →
         (r' : ℕ) × In r' (owners h p) × In (Began r' g s t) q.before
     began_before zero r lt p q g s t i = absurd (omega arith)
     began_before (suc n) r lt p q g s t i =
@@ -217,7 +217,7 @@ module _ (h : List Note) (story taken : ℕ → LogStory) (rows : ℕ → ℕ �
     abbrev line : ℕ → ℕ → List Transaction
     line r g = load_line (story r) g
 
-    own_load : (r g : ℕ) (rs : List Row) (nx : ℕ) → In (Loaded r g rs nx) h → IsLoaded (story r) g
+    pub own_load : (r g : ℕ) (rs : List Row) (nx : ℕ) → In (Loaded r g rs nx) h → IsLoaded (story r) g
     own_load r g rs nx i =
         loaded_in r (rows r) (story r) g rs nx
         (subst (In (Loaded r g rs nx)) (sym (f.told r)) (in_right (Loaded r g rs nx) (observed r (rows r) (taken r)) (only r h) (to_only r (Loaded r g rs nx) h (self r) i)))
@@ -236,21 +236,21 @@ module _ (h : List Note) (story taken : ℕ → LogStory) (rows : ℕ → ℕ �
         ∙ sym (load_line_is (story r) (f.served r) l.0 q.generation l.1 l.2 l.3 (tail_event Transaction (taken r) (story r) (f.tail r) l.0 (Showed q.generation l.1 l.2 l.3) l.4))
 
     -- of two loads of one story the line of the lower generation begins the other's
-    rises : (r g g' : ℕ) → IsLoaded (story r) g → IsLoaded (story r) g' → g < g' → IsPrefixOf (line r g) (line r g')
+    pub rises : (r g g' : ℕ) → IsLoaded (story r) g → IsLoaded (story r) g' → g < g' → IsPrefixOf (line r g) (line r g')
     rises r g g' l m lt =
         let x : (more : List Transaction) × (line_shown l.3 ++ more ≡ line_shown m.3) =
         lines_begin Transaction (story r) (f.served r) (f.order r) l.0 m.0 g g' l.1 l.2 m.1 m.2 l.3 m.3 l.4 m.4 lt in
         (x.0, ap (λ z. z ++ x.0) (load_line_is (story r) (f.served r) l.0 g l.1 l.2 l.3 l.4) ∙ x.1 ∙ sym (load_line_is (story r) (f.served r) m.0 g' m.1 m.2 m.3 m.4))
 
     -- the line of the load under which the parent was split begins each of the child's
-    parent_begins : (p r : ℕ) (q : HasStoryParent p r) (g : ℕ) (rs : List Row) (nx : ℕ) → In (Loaded r g rs nx) h → IsPrefixOf (line p q.generation) (line r g)
+    pub parent_begins : (p r : ℕ) (q : HasStoryParent p r) (g : ℕ) (rs : List Row) (nx : ℕ) → In (Loaded r g rs nx) h → IsPrefixOf (line p q.generation) (line r g)
     parent_begins p r q g rs nx i =
         let l : IsLoaded (taken r) q.generation = shared_load p r q in
         let there : IsLoaded (story r) q.generation = (l.0, l.1, l.2, l.3, tail_event Transaction (taken r) (story r) (f.tail r) l.0 (Showed q.generation l.1 l.2 l.3) l.4) in
         let up : q.generation < g = q.above (Loaded r g rs nx) i (self r) in
         subst (λ z. IsPrefixOf z (line r g)) (sym (shared_line p r q)) (rises r q.generation g there (own_load r g rs nx i) up)
 
-    prefix_trans : (xs ys zs : List Transaction) → IsPrefixOf xs ys → IsPrefixOf ys zs → IsPrefixOf xs zs
+    pub prefix_trans : (xs ys zs : List Transaction) → IsPrefixOf xs ys → IsPrefixOf ys zs → IsPrefixOf xs zs
     prefix_trans xs ys zs p q = (p.0 ++ q.0, sym (append_assoc xs p.0 q.0) ∙ ap (λ z. z ++ q.0) p.1 ∙ q.1)
 
     -- of a range and an owner, too
@@ -375,7 +375,7 @@ module _ (h : List Note) (story taken : ℕ → LogStory) (rows : ℕ → ℕ �
           child_eldest h b.0 r (b.1).child ∙ elder n b.0 (omega arith) load (self b.0) (in_moment b.0 r b.1 load (b.1).loaded.2)
     ]
 
-    kin_is : (n r : ℕ) → r < n → (o : Note) → is_of r o ≡ true → In o h → kin h r ≡ owners h r
+    pub kin_is : (n r : ℕ) → r < n → (o : Note) → is_of r o ≡ true → In o h → kin h r ≡ owners h r
     kin_is zero r lt o is i = absurd (omega arith)
     kin_is (suc n) r lt o is i = elim (told_born r o is i) as (λ x. kin h r ≡ owners h r) [
       | inl a ↦ unborn_kin h r a.unborn ∙ sym (unborn_owners h r a.unborn)
@@ -409,7 +409,7 @@ module _ (h : List Note) (story taken : ℕ → LogStory) (rows : ℕ → ℕ �
         (subst (In (Done r g s)) (sym (f.told r)) (in_right (Done r g s) (observed r (rows r) (taken r)) (only r h) (to_only r (Done r g s) h (self r) i)))
 
     -- one began under its number
-    done_begun : (r g s : ℕ) (i : In (Done r g s) h) (d : DoneAt r (rows r) (story r) r g s) → begun h r g s ≡ d.t ∷ []
+    pub done_begun : (r g s : ℕ) (i : In (Done r g s) h) (d : DoneAt r (rows r) (story r) r g s) → begun h r g s ≡ d.t ∷ []
     done_begun r g s i d =
         let all : begun (observed r (rows r) (story r)) r g (d.group.first + length d.front) ≡ d.t ∷ [] = begun_one r (rows r) (story r) (f.served r) d.append g d.group d.front d.back d.t d.made d.items in
         let here : begun (observed r (rows r) (story r)) r g s ≡ d.t ∷ [] = subst (λ z. begun (observed r (rows r) (story r)) r g z ≡ d.t ∷ []) (sym d.number) all in
@@ -450,7 +450,7 @@ module _ (h : List Note) (story taken : ℕ → LogStory) (rows : ℕ → ℕ �
     abbrev IsInLine : ℕ → ℕ → ℕ → ℕ → ℕ → Type 0
     IsInLine r g g' s z = (t : Transaction) × (begun h z g' s ≡ t ∷ []) × IsMember (line r g) s t
 
-    done_stands : (n r : ℕ) → r < n → (g : ℕ) (rs : List Row) (nx : ℕ) → In (Loaded r g rs nx) h → (r' g' s : ℕ) → In r' (owners h r) → g' < g → In (Done r' g' s) h →
+    pub done_stands : (n r : ℕ) → r < n → (g : ℕ) (rs : List Row) (nx : ℕ) → In (Loaded r g rs nx) h → (r' g' s : ℕ) → In r' (owners h r) → g' < g → In (Done r' g' s) h →
         (t : Transaction) × (begun h r' g' s ≡ t ∷ []) × IsMember (line r g) s t
     done_stands zero r less g rs nx i r' g' s own lt done = absurd (omega arith)
     done_stands (suc n) r less g rs nx i r' g' s own lt done =
@@ -571,3 +571,8 @@ module _ (h : List Note) (story taken : ℕ → LogStory) (rows : ℕ → ℕ �
           ];
       once = λ before after r g rs rs' nx nx' e c. once before after r g rs rs' nx nx' e (in_contains (Loaded r g rs' nx') after c);
     }
+
+    -- the pasts of its loads
+    pub family_past : family_replays.past ≡ (λ r g. From_nothing (load_line (story r) g))
+    unfolding family_replays
+    family_past = refl

@@ -96,7 +96,7 @@ module _ (A : Type 0) where
   }
 
   -- a front that ends where an item stands
-  same_front : (line before more items after : List A) → line ++ more ≡ before ++ (items ++ after) → length line ≡ length before → line ++ (items ++ after) ≡ line ++ more
+  pub same_front : (line before more items after : List A) → line ++ more ≡ before ++ (items ++ after) → length line ≡ length before → line ++ (items ++ after) ≡ line ++ more
   same_front [] [] more items after e l = sym e
   same_front [] (b ∷ before) more items after e l = absurd (let h : 0 ≡ suc (length before) = l in omega arith)
   same_front (x ∷ line) [] more items after e l = absurd (let h : suc (length line) ≡ 0 = l in omega arith)

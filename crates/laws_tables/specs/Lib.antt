@@ -4,6 +4,7 @@ pub mod Families
 pub mod Fenced
 pub mod Layers
 pub mod NarrowKeys
+pub mod Reads
 pub mod Runs
 pub mod Through
 pub mod WholeStories

@@ -7,5 +7,6 @@
 //! - `tables_replay`: over such streams, whatever servers fold into indexes, trim or split off, each load of a range shows its
 //!   table after every transaction that was acknowledged under an earlier generation, in order, each once (`ChainReplays`; of
 //!   all that is observed of the first range, and of all ranges that splits made of it, `Replays`). What its servers do is a run
-//!   (`specs/Runs.antt`), and ranges that splits made are a family (`specs/Families.antt`).
+//!   (`specs/Runs.antt`), and ranges that splits made are a family (`specs/Families.antt`). Each Get that a family answers shows
+//!   the table after every transaction that was acknowledged so far (`specs/Reads.antt`).
 #![tactic(auto)]

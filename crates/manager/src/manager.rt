@@ -94,7 +94,7 @@ impl<D: Disk> Manager<D> {
         ensures running { IfOk result (λ m. m.file.stopped ≡ false) }
         ensures shows { IfOk result (λ m. ShowsCatalog m (first_catalog nodes target)) }
         ensures records { IfOk result (λ m. m.file.records ≡ first_record nodes target ∷ []) }
-        ensures version { IfOk result (λ m. m.file.version ≡ Version.V1) }
+        ensures version { IfOk result (λ m. m.file.version ≡ Version.V2) }
         ensures replays { IfOk result (λ m. ManagerIsReplay m m.file.records) }
         ensures failed { IfErr result (λ e. e.0 ≡ DiskFault.Failed → (D.state disk).failures < (D.state e.1).failures) }
         ensures steady { IsSteady (D.state disk) → MatchResult result
@@ -106,8 +106,8 @@ impl<D: Disk> Manager<D> {
 
         // A crash at any moment leaves a file with no record, or with the first alone, also where it is refused.
         ensures any_moment { MatchResult result
-            (λ m. LeavesOnly (D.state disk) (D.state m.file.disk) (HoldsAtMost Version.V1 (first_record nodes target)))
-            (λ e. LeavesOnly (D.state disk) (D.state e.1) (HoldsAtMost Version.V1 (first_record nodes target))) }
+            (λ m. LeavesOnly (D.state disk) (D.state m.file.disk) (HoldsAtMost Version.V2 (first_record nodes target)))
+            (λ e. LeavesOnly (D.state disk) (D.state e.1) (HoldsAtMost Version.V2 (first_record nodes target))) }
     {
         let Ok(table) = ManagerTable::new(alloc, nodes, target) else {
             return Err((DiskFault::Memory, disk));

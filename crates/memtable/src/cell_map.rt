@@ -5,15 +5,19 @@ ghost use Rattle.std.specs.List.{AllByRecursion};
 ghost use Rattle.memtable.specs.Entries as specs;
 
 use crate::cell::Cell;
+use crate::key::Key;
 use crate::layer::put_all;
 use bytes::Bytes;
 use std::alloc::{AllocError, Global};
 use std::collections::BTreeMap;
 use std::marker::Model;
 
+/// Keys and their cells, in the order of the keys.
+pub type Cells = BTreeMap<Key, Cell>;
+
 /// A map from keys to cells. Its value is its entries in the order of the keys.
 pub struct CellMap {
-    entries: BTreeMap<Bytes, Cell>,
+    entries: Cells,
     size: u64,
 }
 
@@ -85,14 +89,14 @@ impl CellMap {
     }
 
     /// The cell at a key.
-    pub fn get(&self, key: &Bytes) -> Option<&Cell>
+    pub fn get(&self, key: &Key) -> Option<&Cell>
         ensures { option_copied result ≡ specs.found self.now key.now }
     {
         self.entries.get(key)
     }
 
     /// Its entries, for a walk through them in the order of their keys.
-    pub fn entries(&self) -> &BTreeMap<Bytes, Cell>
+    pub fn entries(&self) -> &Cells
         ensures value { result.now.entries ≡ self.now }
         ensures each { AllByRecursion specs.IsFit result.now.entries }
         ensures numbered { specs.AreNumbered result.now.entries }

@@ -6,19 +6,20 @@ ghost use Rattle.memtable.specs.Cell.{IsEntry, IsNumbered};
 ghost use Rattle.memtable.specs.Entries as specs;
 
 use crate::cell::{Cell, entry_size};
+use crate::cell_map::Cells;
+use crate::key::Key;
 use bytes::Bytes;
 use std::alloc::{AllocError, Global};
-use std::collections::BTreeMap;
 
 /// A key and its cell before a change of it.
-type Undo = (Bytes, Option<Cell>);
+type Undo = (Key, Option<Cell>);
 
 /// Puts the cell at the key, and adds how the key was. It answers the size with the entry, of a size with the layer.
 fn put(
-    layer: &mut BTreeMap<Bytes, Cell>,
+    layer: &mut Cells,
     undos: &mut Vec<Undo>,
     size: u64,
-    key: Bytes,
+    key: Key,
     cell: Cell,
 ) -> Result<u64, AllocError>
     requires fits { IsEntry key cell }
@@ -50,7 +51,7 @@ fn put(
 }
 
 /// The size of the entry that was at the key.
-fn old_size(key: &Bytes, old: &Option<Cell>) -> u64
+fn old_size(key: &Key, old: &Option<Cell>) -> u64
     requires { specs.old_size key.now old.now < 2 ^ 64 }
     ensures { result ≡ specs.old_size key.now old.now }
 {
@@ -61,7 +62,7 @@ fn old_size(key: &Bytes, old: &Option<Cell>) -> u64
 }
 
 /// Takes one change back.
-fn take_back(layer: &mut BTreeMap<Bytes, Cell>, key: Bytes, old: Option<Cell>)
+fn take_back(layer: &mut Cells, key: Key, old: Option<Cell>)
     ensures { layer.new.entries ≡ specs.taken_back (key, old) layer.old.entries }
 {
     match old {
@@ -76,7 +77,7 @@ fn take_back(layer: &mut BTreeMap<Bytes, Cell>, key: Bytes, old: Option<Cell>)
 }
 
 /// Takes changes back, the last one first.
-fn take_all_back(layer: &mut BTreeMap<Bytes, Cell>, mut undos: Vec<Undo>)
+fn take_all_back(layer: &mut Cells, mut undos: Vec<Undo>)
     ensures { layer.new.entries ≡ specs.all_taken_back undos.items layer.old.entries }
 {
     while let Some((key, old)) = undos.pop() {
@@ -87,7 +88,7 @@ fn take_all_back(layer: &mut BTreeMap<Bytes, Cell>, mut undos: Vec<Undo>)
 /// Puts all changes, from left to right; where memory runs out none. It answers the size with them, of a size with the layer.
 pub(crate) fn put_all(
     alloc: Global,
-    layer: &mut BTreeMap<Bytes, Cell>,
+    layer: &mut Cells,
     size: u64,
     changes: Vec<(Bytes, Cell)>,
 ) -> Result<u64, AllocError>
@@ -103,7 +104,7 @@ pub(crate) fn put_all(
     let mut undos = Vec::new(alloc);
     let mut grown = size;
     for (key, cell) in changes {
-        match put(layer, &mut undos, grown, key, cell) {
+        match put(layer, &mut undos, grown, Key::of(key), cell) {
             Ok(next) => grown = next,
             Err(_) => {
                 take_all_back(layer, undos);

@@ -16,11 +16,14 @@
 
 mod cell;
 mod cell_map;
+mod compared;
+mod key;
 mod layer;
 mod limits;
 mod mem_table;
 
 pub use cell::{Cell, Place, entry_size};
-pub use cell_map::CellMap;
+pub use cell_map::{CellMap, Cells};
+pub use key::Key;
 pub use limits::{MAX_BATCH, MAX_CHANGES, MAX_INLINE, MAX_KEY, MAX_VALUE, is_large};
 pub use mem_table::MemTable;

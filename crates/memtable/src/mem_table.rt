@@ -5,10 +5,10 @@ ghost use Rattle.std.specs.List.{AllByRecursion};
 ghost use Rattle.memtable.specs.Entries.{IsFit, AllFit, AreNumbered, found, latest, put_all};
 
 use crate::cell::Cell;
-use crate::cell_map::CellMap;
+use crate::cell_map::{CellMap, Cells};
+use crate::key::Key;
 use bytes::Bytes;
 use std::alloc::{AllocError, Global};
-use std::collections::BTreeMap;
 use std::marker::Model;
 use std::mem;
 
@@ -90,7 +90,7 @@ impl MemTable {
     }
 
     /// The cell at a key: of the live layer, or else of the fixed one.
-    pub fn get(&self, key: &Bytes) -> Option<&Cell>
+    pub fn get(&self, key: &Key) -> Option<&Cell>
         ensures { option_copied result ≡ specs.cell_at self.now key.now }
     {
         match self.live.get(key) {
@@ -103,7 +103,7 @@ impl MemTable {
     }
 
     /// The live layer, for a walk through its entries in the order of their keys.
-    pub fn live(&self) -> &BTreeMap<Bytes, Cell>
+    pub fn live(&self) -> &Cells
         ensures value { result.now.entries ≡ self.now.live }
         ensures each { AllByRecursion IsFit result.now.entries }
         ensures numbered { AreNumbered result.now.entries }
@@ -112,7 +112,7 @@ impl MemTable {
     }
 
     /// The fixed layer, if there is one, for a walk through its entries in the order of their keys.
-    pub fn fixed(&self) -> Option<&BTreeMap<Bytes, Cell>>
+    pub fn fixed(&self) -> Option<&Cells>
         ensures value { option_map (λ layer. layer.now.entries) result ≡ self.now.fixed }
         ensures each { AllFit (option_map (λ layer. layer.now.entries) result) }
     {

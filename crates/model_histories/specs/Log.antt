@@ -1,7 +1,7 @@
 -- The line that a load of a log makes of what it shows, and what is observed of a range.
-use Rattle.std.specs.Prelude.{ℕ, suc, Bool, false, List, [], ◌∷◌, map, Option, Some, None, if◌then◌else◌, ◌==◌}
+use Rattle.std.specs.Prelude.{ℕ, suc, Bool, true, false, List, [], ◌∷◌, map, Option, Some, None, if◌then◌else◌, ◌==◌}
 use Rattle.wire.specs.declared.note.Note.{Note}
-use Rattle.wire.specs.declared.note.Note.TheVariants.{Began, Done, Loaded}
+use Rattle.wire.specs.declared.note.Note.TheVariants.{Began, Done, Loaded, Got}
 use Rattle.model_partition.specs.Past.{Transaction}
 use Rattle.commitlog.specs.Replay.{Numbered as Group, replayed as replay}
 use Rattle.model_histories.specs.Story.{Placed, StreamEvent, Made, Answered, Showed}
@@ -33,7 +33,17 @@ is_of range (Done other g s) = range == other
 is_of range (Loaded other g rows next) = range == other
 is_of range note = false
 
--- the observations of one range
+-- whether an observation is of an answered Get
+abbrev pub is_got : Note → Bool
+is_got (Got range g key value) = true
+is_got note = false
+
+-- the observations but for those of Gets
+abbrev pub without_gots : List Note → List Note
+without_gots [] = []
+without_gots (note ∷ h) = if is_got note then without_gots h else note ∷ without_gots h
+
+-- the observations of one range, which has none of Gets
 abbrev pub only : ℕ → List Note → List Note
 only range [] = []
 only range (note ∷ h) = if is_of range note then note ∷ only range h else only range h

@@ -7,7 +7,7 @@ use Rattle.wire.specs.declared.body.Body.{Body}
 use Rattle.wire.specs.declared.body.Body.TheVariants as bodies
 use Rattle.wire.specs.declared.body.MapBody.TheVariants as maps
 use Rattle.wire.specs.declared.note.Note.{Note}
-use Rattle.wire.specs.declared.note.Note.TheVariants.{Began, Done, Loaded}
+use Rattle.wire.specs.declared.note.Note.TheVariants.{Began, Done, Loaded, Got}
 use Rattle.wire.specs.declared.rows.Row.{Row}
 use Rattle.commitlog.specs.Replay.{Numbered}
 use Rattle.model_streams.specs.Maps.{entry_at}
@@ -84,6 +84,7 @@ IsSeenAs texts (tables.Began range generation number changes) note = note ≡ Be
 IsSeenAs texts (tables.Done range generation number) note = note ≡ Done range generation number
 IsSeenAs texts (tables.Loaded range generation table next) note =
     (rows : List Row) × (note ≡ Loaded range generation rows next) × ((key : Bytes) → stored rows key ≡ table_in texts (entries_in texts table) key)
+IsSeenAs texts (tables.Got range generation key value) note = note ≡ Got range generation key value
 
 -- one by one
 abbrev pub AreSeenAs : (ℕ → Bytes) → List TableNote → List Note → Type 0

@@ -1,7 +1,7 @@
 -- What a memory table says of keys, where the bytes of extents are known.
 use Rattle.std.specs.Prelude.{◌≡◌, ℕ, List, [], ◌∷◌, ◌++◌, length, take, drop, Option, Some, None}
 use Rattle.wire.specs.declared.note.Note.{Note}
-use Rattle.wire.specs.declared.note.Note.TheVariants.{Acked, SealedAt, Content, Seen, Began, Done, Loaded, Split, Merged}
+use Rattle.wire.specs.declared.note.Note.TheVariants.{Acked, SealedAt, Content, Seen, Began, Done, Loaded, Got, Split, Merged}
 use Rattle.replica.specs.Groups.{joined, text}
 use Rattle.memtable.specs.declared.cell.Cell.{Cell}
 use Rattle.memtable.specs.declared.cell.Cell.TheVariants.{Deleted, Inline, Placed}
@@ -41,6 +41,7 @@ TellsRightly texts (SealedAt e length) = Unit {0}
 TellsRightly texts (Began range generation number changes) = Unit {0}
 TellsRightly texts (Done range generation number) = Unit {0}
 TellsRightly texts (Loaded range generation rows next) = Unit {0}
+TellsRightly texts (Got range generation key value) = Unit {0}
 TellsRightly texts (Split range low high key) = Unit {0}
 TellsRightly texts (Merged left right range) = Unit {0}
 

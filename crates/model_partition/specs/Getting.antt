@@ -19,6 +19,8 @@ use Rattle.checkpoint.specs.declared.installed_index.InstalledIndex.{InstalledIn
 use Rattle.checkpoint.specs.declared.page_lookup.Lookup.{Lookup as Indexed}
 use Rattle.checkpoint.specs.declared.page_lookup.Lookup.TheVariants.{Found, Absent, Need}
 use Rattle.checkpoint.specs.Lookup.{page_for, looked_up}
+use Rattle.model_partition.specs.declared.table_note.TableNote.{TableNote}
+use Rattle.model_partition.specs.declared.table_note.TableNote.TheVariants.{Got}
 use Rattle.model_partition.specs.declared.waiting.PlaceRead.{PlaceRead}
 use Rattle.model_partition.specs.declared.waiting.WaitingGet.{WaitingGet}
 use Rattle.lru.specs.LruCache.{lru_cache, put_entries, promoted}
@@ -116,20 +118,28 @@ came held asked place bytes = if is_asked place asked then put_entries is_place 
 
 -- ---- one try
 
--- the Gets that still wait, the number of the next request, and the packets
+-- the Gets that still wait, the number of the next request, the packets, and the observations
 pub record Tried : Type 0 where
   pub waiting : List WaitingGet
   pub count : ℕ
   pub packets : List Packet
+  pub notes : List TableNote
 
 abbrev pub asks_place : ServerContext → WaitingGet → Bool → Place → Option Nodes → Tried
-asks_place d g page place None = record { waiting = g ∷ []; count = d.count; packets = [] }
+asks_place d g page place None = record { waiting = g ∷ []; count = d.count; packets = []; notes = [] }
 asks_place d g page place (Some places) =
     let read : PlaceRead = record { request = request d; place = place; page = page; replica = First } in
-    record { waiting = record g { reads = g.reads ++ read ∷ [] } ∷ []; count = suc d.count; packets = reads_place d places read ∷ [] }
+    record { waiting = record g { reads = g.reads ++ read ∷ [] } ∷ []; count = suc d.count; packets = reads_place d places read ∷ []; notes = [] }
 
+-- what is answered is shown
 abbrev pub answered : ServerContext → RangeState → WaitingGet → Lookup → Tried
-answered d r g (Is value) = record { waiting = []; count = d.count; packets = tells d g.from (bodies.Table (tables.Value g.request value)) ∷ [] }
+answered d r g (Is value) =
+    record {
+      waiting = [];
+      count = d.count;
+      packets = tells d g.from (bodies.Table (tables.Value g.request value)) ∷ [];
+      notes = Got r.load.range r.load.generation g.key value ∷ [];
+    }
 answered d r g (Needs page place) = asks_place d g page place (places_of r place.extent)
 
 -- why a Get that waits is answered no more
@@ -137,7 +147,7 @@ abbrev pub try_fault : ServerContext → RangeState → Option Refusal
 try_fault d r = first_met ((refusals.Paused, is_paused r.pause) ∷ (refusals.LeaseEnded, lease_ended d r) ∷ [])
 
 abbrev pub try_unless : ServerContext → RangeState → WaitingGet → Option Refusal → Tried
-try_unless d r g (Some refusal) = record { waiting = []; count = d.count; packets = refuses d g.from g.request refusal ∷ [] }
+try_unless d r g (Some refusal) = record { waiting = []; count = d.count; packets = refuses d g.from g.request refusal ∷ []; notes = [] }
 try_unless d r g None = answered d r g (look r.held r.indexes g.key (standing r g.key))
 
 -- A Get is tried: refused where the range is paused or the lease has ended, else answered, or one more read is sent for what is
@@ -147,11 +157,11 @@ try d r g = try_unless d r g (try_fault d r)
 
 -- each in turn
 abbrev pub try_all : ServerContext → RangeState → List WaitingGet → Tried
-try_all d r [] = record { waiting = []; count = d.count; packets = [] }
+try_all d r [] = record { waiting = []; count = d.count; packets = []; notes = [] }
 try_all d r (g ∷ gs) =
     let one = try d r g in
     let others = try_all (record d { count = one.count }) r gs in
-    record { waiting = one.waiting ++ others.waiting; count = others.count; packets = one.packets ++ others.packets }
+    record { waiting = one.waiting ++ others.waiting; count = others.count; packets = one.packets ++ others.packets; notes = one.notes ++ others.notes }
 
 -- ---- a Get
 
@@ -168,7 +178,7 @@ get_fault d r key =
 
 abbrev pub gets_after : RangeState → List WaitingGet → Tried → RangeOutcome
 gets_after r before tried =
-    record { after = Some (record r { gets = before ++ tried.waiting }); count = tried.count; packets = tried.packets; notes = [] }
+    record { after = Some (record r { gets = before ++ tried.waiting }); count = tried.count; packets = tried.packets; notes = tried.notes }
 
 -- what serves it is used
 abbrev pub gets : ServerContext → RangeState → ActorId → ReqNo → List ℕ → Option Refusal → RangeOutcome

@@ -13,6 +13,7 @@ pub mod Past
 pub mod Range
 pub mod Server
 pub mod Servers
+pub mod Served
 pub mod Serving
 pub mod Map
 pub mod MapRules

@@ -6,7 +6,7 @@ use Rattle.wire.specs.declared.body.StreamBody.TheVariants.{Confirmed}
 use Rattle.wire.specs.declared.body.Body.{Body}
 use Rattle.wire.specs.declared.body.Body.TheVariants as bodies
 use Rattle.wire.specs.declared.note.Note.{Note}
-use Rattle.wire.specs.declared.note.Note.TheVariants.{Acked, Content, Seen, Began, Done, Loaded}
+use Rattle.wire.specs.declared.note.Note.TheVariants.{Acked, Content, Seen, Began, Done, Loaded, Got}
 use Rattle.wire.specs.declared.packet.Packet.{Packet}
 use Rattle.wire.specs.declared.refusal.Refusal.{Refusal}
 use Rattle.wire.specs.declared.refusal.Refusal.TheVariants.{NotOwner}
@@ -105,6 +105,7 @@ abbrev pub told : List Note → TableNote → Note
 told notes (tables.Began range generation number changes) = Began range generation number changes
 told notes (tables.Done range generation number) = Done range generation number
 told notes (tables.Loaded range generation table next) = Loaded range generation (rows_of notes table) next
+told notes (tables.Got range generation key value) = Got range generation key value
 
 abbrev pub noted : List Note → List TableNote → List Note
 noted notes [] = notes
@@ -116,6 +117,7 @@ ArePlain [] = Unit {0}
 ArePlain (tables.Began range generation number changes ∷ notes) = ArePlain notes
 ArePlain (tables.Done range generation number ∷ notes) = ArePlain notes
 ArePlain (tables.Loaded range generation table next ∷ notes) = ⊥
+ArePlain (tables.Got range generation key value ∷ notes) = ArePlain notes
 
 -- one loaded table, which is this one, and nothing else
 pub record IsLoad (loading : Option ShownTable) (notes : List TableNote) : Type 0 where

@@ -2,9 +2,8 @@
 
 use bytes::Bytes;
 use checkpoint::InstalledIndexes;
-use memtable::Cell;
+use memtable::{Cell, Cells};
 use metadata::KeyRange;
-use std::collections::BTreeMap;
 use std::marker::Model;
 
 /// Keys, each with what a row keeps of its value, in order of the keys.
@@ -50,7 +49,7 @@ impl Drop for ShownTable {
 /// The same as a range has it, before it is shown.
 #[derive(Drop)]
 pub struct TableView<'a> {
-    pub live: &'a BTreeMap<Bytes, Cell>,
+    pub live: &'a Cells,
     /// The newest first.
     pub indexes: &'a InstalledIndexes,
     pub keys: &'a KeyRange,

@@ -1,6 +1,7 @@
 //! What a server shows of its steps.
 
 use crate::shown_table::ShownTable;
+use bytes::Bytes;
 use wire::{Changes, Fence, RangeId};
 
 /// One observation of a server. Of a loaded table it has what the rows are made of, which a run makes.
@@ -25,5 +26,12 @@ pub enum TableNote {
         generation: Fence,
         table: ShownTable,
         next: u64,
+    },
+    /// A Get of this key was answered, under a generation: with this value, or that there is none.
+    Got {
+        range: RangeId,
+        generation: Fence,
+        key: Bytes,
+        value: Option<Bytes>,
     },
 }

@@ -1,8 +1,7 @@
 //! What waits at a server.
 
-use bytes::Bytes;
 use client::Place as Replica;
-use memtable::Place;
+use memtable::{Key, Place};
 use std::marker::Model;
 use wire::{ActorId, Changes, ReqNo};
 
@@ -60,6 +59,6 @@ impl Model for PlaceReads {
 pub struct WaitingGet {
     pub from: ActorId,
     pub request: ReqNo,
-    pub key: Bytes,
+    pub key: Key,
     pub reads: PlaceReads,
 }

@@ -21,7 +21,7 @@ use Rattle.wire.specs.declared.body.TableBody.TheVariants as tables
 use Rattle.wire.specs.declared.body.Body.{Body}
 use Rattle.wire.specs.declared.body.Body.TheVariants as bodies
 use Rattle.wire.specs.declared.note.Note.{Note}
-use Rattle.wire.specs.declared.note.Note.TheVariants.{Began, Done, Loaded, Split, Merged}
+use Rattle.wire.specs.declared.note.Note.TheVariants.{Began, Done, Loaded, Got, Split, Merged}
 use Rattle.wire.specs.declared.packet.Packet.{Packet}
 use Rattle.wire.specs.declared.streams.Modify.{Modify}
 use Rattle.streams.specs.Streams.{kind_number}
@@ -279,6 +279,7 @@ abbrev pub is_table_note : Note → Bool
 is_table_note (Began range generation number changes) = true
 is_table_note (Done range generation number) = true
 is_table_note (Loaded range generation rows next) = true
+is_table_note (Got range generation key value) = true
 is_table_note (Split range low high key) = true
 is_table_note (Merged left right range) = true
 is_table_note _ = false

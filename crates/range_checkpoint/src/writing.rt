@@ -11,13 +11,11 @@ ghost use Rattle.range_checkpoint.specs.Combining as specs;
 
 use crate::appends::{NextAppend, append_of, send};
 use crate::starts::{CheckpointStart, start_of};
-use bytes::Bytes;
 use checkpoint::{CheckpointPages, PageChanges, PageMerge};
 use client::Appending;
-use memtable::Cell;
+use memtable::Cells;
 use model_partition::{CheckpointJob, CheckpointPhase, Progress, RangeContent, ServerContext};
 use std::alloc::{AllocError, Global};
-use std::collections::BTreeMap;
 
 /// What is appended first of pages none of which stands.
 pub(crate) fn first_append(alloc: Global, pages: &CheckpointPages) -> Result<NextAppend, AllocError>
@@ -34,7 +32,7 @@ pub(crate) fn combined_or_newer(
     alloc: Global,
     merge: &PageMerge,
     changes: &PageChanges,
-    newer: &BTreeMap<Bytes, Cell>,
+    newer: &Cells,
 ) -> Result<(bool, CheckpointPages), AllocError>
     requires { AllByRecursion IsFit newer.now.entries }
     ensures { (m : MergeState) → LeadsTo changes.now merge.now m → IfOk result (λ x. (x.0, x.1) ≡ specs.combined_or_newer m newer.now.entries) }
@@ -73,7 +71,7 @@ pub(crate) fn combined_job(
     alloc: Global,
     job: &CheckpointJob,
     changes: &PageChanges,
-    newer: &BTreeMap<Bytes, Cell>,
+    newer: &Cells,
 ) -> Result<(CheckpointJob, Option<Appending>), AllocError>
     requires { AllByRecursion IsFit newer.now.entries }
     ensures { (m : MergeState) → LeadsTo changes.now job.now.merge m → IfOk result (λ x. specs.combined_append (record job.now { merge = m }) newer.now.entries ≡ (x.0, x.1)) }

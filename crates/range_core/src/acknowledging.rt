@@ -10,12 +10,11 @@ ghost use Rattle.range_commit.specs.Queue.{changes_out, committed_out, dones_out
 ghost use Rattle.range_core.specs.Replies.{IsAppended, IsAwaited, is_end_of, is_stale, reaction, taking};
 ghost use Rattle.range_core.specs.Steps.{outcome, IsShort};
 
-use crate::forming::{Begun, next_group};
+use crate::forming::{Begun, count_of_notes, next_group};
 use crate::range_step::{RangeStep, append_reserved, push_some};
 use crate::state::RangeState;
 use client::{Job, StreamClient};
 use model_partition::{ServerContext, TableNote, take_answer};
-use range_commit::MAX_WAITING;
 use std::alloc::{AllocError, Global};
 use streams::Position;
 use wire::{AppendBody, Body, ExtentId, Packet, Refusal};
@@ -30,7 +29,7 @@ struct Told {
 /// What a group that stands brings, and then what the next one does.
 fn joined(told: Told, begun: Begun, count: u64) -> RangeStep
     requires few { (length told.packets.items ≤ 1024) × (length told.notes.items ≤ 1024) }
-    requires room { (vec_len told.packets + 1 ≤ vec_capacity told.packets) × (vec_len told.notes + 1024 ≤ vec_capacity told.notes) }
+    requires room { (vec_len told.packets + 1 ≤ vec_capacity told.packets) × (vec_len told.notes + vec_len begun.notes ≤ vec_capacity told.notes) }
     requires more { length begun.notes.items ≤ 1024 }
     ensures value { result ≡ record { dropped = false; count = count; packets = told.packets.items ++ option_to_list begun.packet; notes = told.notes.items ++ begun.notes.items } }
     ensures short { IsShort result }
@@ -180,12 +179,12 @@ impl RangeState {
         Ok(())
     }
 
-    /// What is told of the group that is out once it stands, with room for what the next one brings.
-    fn told(&self, alloc: Global, context: &ServerContext) -> Result<Told, AllocError>
+    /// What is told of the group that is out once it stands, with room for a packet and so many observations of the next one.
+    fn told(&self, alloc: Global, context: &ServerContext, more: usize) -> Result<Told, AllocError>
         ensures packets { IfOk result (λ told. told.packets.items ≡ committed_out context.now self.now.out) }
         ensures notes { IfOk result (λ told. told.notes.items ≡ dones_out self.now.load.range self.now.load.generation self.now.out) }
         ensures few { IfOk result (λ told. (length told.packets.items ≤ 1024) × (length told.notes.items ≤ 1024)) }
-        ensures room { IfOk result (λ told. (vec_len told.packets + 1 ≤ vec_capacity told.packets) × (vec_len told.notes + 1024 ≤ vec_capacity told.notes)) }
+        ensures room { IfOk result (λ told. (vec_len told.packets + 1 ≤ vec_capacity told.packets) × (vec_len told.notes + more ≤ vec_capacity told.notes)) }
     {
         let range = self.content.load.range;
         let generation = self.content.load.generation;
@@ -193,7 +192,7 @@ impl RangeState {
         let _most = self.queue.count();
         let (mut packets, mut notes) = self.queue.acknowledge(alloc, context, range, generation)?;
         packets.reserve(1)?;
-        notes.reserve(MAX_WAITING)?;
+        notes.reserve(more)?;
         Ok(Told { packets, notes })
     }
 
@@ -217,10 +216,10 @@ impl RangeState {
         ensures err { OnErr result (self.new ≡ self.old) }
         ensures short { IfOk result IsShort }
     {
-        let told = self.told(alloc, context)?;
         let range = self.content.load.range;
         let generation = self.content.load.generation;
         let next = next_group(alloc, &self.queue, context, range, generation)?;
+        let told = self.told(alloc, context, count_of_notes(&next))?;
         self.apply(alloc, context, packet, extent, offset)?;
         let begun = self.begin_next(alloc, context, next);
         Ok(joined(told, begun, context.count + 1))

@@ -5,6 +5,7 @@ ghost use Rattle.commitlog.specs.Record.{spelling};
 ghost use Rattle.model_partition.specs.Range.{given, goes, picking, request};
 ghost use Rattle.model_partition.specs.Serving.{began, forms, grown, record_of};
 ghost use Rattle.range_commit.specs.Queue.{IsNextGroup, is_formed};
+ghost use Rattle.range_core.specs.Forming.{count_of_notes};
 ghost use Rattle.range_core.specs.Steps.{outcome, IsShort};
 
 use crate::range_step::{RangeStep, push_some};
@@ -63,6 +64,16 @@ pub(crate) fn next_group(
     }
 }
 
+/// How many observations the group brings, if there is one.
+pub(crate) fn count_of_notes(next: &Option<Ready>) -> usize
+    ensures { result ≡ count_of_notes next.now }
+{
+    match next {
+        None => 0,
+        Some(ready) => ready.notes.len(),
+    }
+}
+
 /// What is sent and shown where a group begins to be appended.
 #[derive(Drop)]
 pub(crate) struct Begun {
@@ -96,6 +107,7 @@ impl RangeState {
         requires few { IfSome next (λ x. length x.notes.items ≤ 1024) }
         ensures rule { forms context.now self.old ≡ goes context.now self.new (option_to_list result.packet) result.notes.items }
         ensures few { length result.notes.items ≤ 1024 }
+        ensures count { length result.notes.items ≡ count_of_notes next }
     {
         match next {
             None => Begun {

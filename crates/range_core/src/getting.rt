@@ -44,8 +44,8 @@ impl RangeState {
     /// A Get of a user is answered from the memory table and the indexes, or waits for the bytes of a page or of a value. It is
     /// refused 38 while the range is loaded, 34 while it is paused, 32 once its lease has ended, 36 where the key has no byte or
     /// more than 256, 33 where it is not of the range, and 35 where 256 wait, the first of these that is met; nothing changes then. The pages that may have
-    /// its key, where the memory table does not, and the value that it finds in the cache are then those most recently used. Where
-    /// memory runs out (22) nothing has changed.
+    /// its key, where the memory table does not, and the value that it finds in the cache are then those most recently used. What is
+    /// answered is shown. Where memory runs out (22) nothing has changed.
     pub fn get(
         &mut self,
         alloc: Global,
@@ -66,6 +66,8 @@ impl RangeState {
         let content = &self.content;
         let asking = Asking {
             context,
+            range: content.load.range,
+            generation: content.load.generation,
             until: self.until,
             pause: self.pause,
             table: &content.table,
@@ -75,7 +77,7 @@ impl RangeState {
             indexes: indexes_of(content),
         };
         match self.lookups.get(alloc, &asking, from, *request, key) {
-            Ok(tried) => Ok(RangeStep::sends(alloc, tried.count, tried.packets)),
+            Ok(tried) => Ok(RangeStep::of_gets(tried)),
             Err(full) => Err(full),
         }
     }
@@ -107,7 +109,7 @@ impl RangeState {
     /// The bytes of a page or of a value have come: each Get that waits is tried again (34 where the range is paused, 32 once its
     /// lease has ended), and the bytes are held, the most recently
     /// used, where they are what was asked for. Bytes that spell no page where one was asked for change nothing. Or the read is
-    /// refused. No other answer is for a Get. Where memory runs out (22) nothing has changed.
+    /// refused. No other answer is for a Get. Each Get that is answered is shown. Where memory runs out (22) nothing has changed.
     pub(crate) fn gets_reply(
         &mut self,
         alloc: Global,
@@ -132,6 +134,8 @@ impl RangeState {
                 let content = &self.content;
                 let asking = Asking {
                     context,
+                    range: content.load.range,
+                    generation: content.load.generation,
                     until: self.until,
                     pause: self.pause,
                     table: &content.table,
@@ -144,7 +148,7 @@ impl RangeState {
                     .lookups
                     .bytes(alloc, &asking, request, *extent, *offset, bytes)
                 {
-                    Ok(tried) => Ok(RangeStep::sends(alloc, tried.count, tried.packets)),
+                    Ok(tried) => Ok(RangeStep::of_gets(tried)),
                     Err(full) => Err(full),
                 }
             }

@@ -4,7 +4,7 @@ ghost use Rattle.model_partition.specs.Answering.{give_up_all};
 ghost use Rattle.range_core.specs.Steps.{outcome, IsShort};
 
 use crate::range_step::{RangeStep, append_reserved, push_some};
-use crate::state::{RangeState, extents_of, indexes_of, known_extents};
+use crate::state::{RangeState, extents_of, held_under, indexes_of, known_extents};
 use model_partition::ServerContext;
 use range_reads::{Asking, MAX_GETS};
 use std::alloc::{AllocError, Global};
@@ -55,8 +55,11 @@ impl RangeState {
     {
         let packets = Vec::with_capacity(alloc, 6 + MAX_GETS)?;
         let content = &self.content;
+        let (range, generation) = held_under(content);
         let asking = Asking {
             context,
+            range,
+            generation,
             until: self.until,
             pause: self.pause,
             table: &content.table,

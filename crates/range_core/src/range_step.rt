@@ -2,6 +2,7 @@
 ghost use Rattle.std.specs.Prelude.{◌≡◌, ◌<◌, ◌≤◌, ◌+◌, ◌++◌, [], true, false, vec_len, vec_capacity, option_to_list};
 
 use model_partition::TableNote;
+use range_reads::Tried;
 use std::alloc::{AllocError, Global};
 use std::marker::Model;
 use wire::Packet;
@@ -56,6 +57,18 @@ impl RangeStep {
             count,
             packets,
             notes: Vec::new(alloc),
+        }
+    }
+
+    /// What tries of Gets leave.
+    pub(crate) fn of_gets(tried: Tried) -> RangeStep
+        ensures { result ≡ record { dropped = false; count = tried.count; packets = tried.packets.items; notes = tried.notes.items } }
+    {
+        RangeStep {
+            dropped: false,
+            count: tried.count,
+            packets: tried.packets,
+            notes: tried.notes,
         }
     }
 

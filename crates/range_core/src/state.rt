@@ -101,6 +101,13 @@ pub(crate) fn indexes_of(content: &RangeContent) -> &InstalledIndexes
     &content.indexes
 }
 
+/// The range that is held, and under which generation. A call, as above.
+pub(crate) fn held_under(content: &RangeContent) -> (RangeId, Fence)
+    ensures { (result.0 ≡ content.now.load.range) × (result.1 ≡ content.now.load.generation) }
+{
+    (content.load.range, content.load.generation)
+}
+
 impl RangeState {
     /// A range of which nothing is known but what a load leaves and what is looked up.
     fn of(alloc: Global, until: u64, content: RangeContent, lookups: Lookups) -> RangeState

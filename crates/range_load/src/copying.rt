@@ -41,7 +41,7 @@ pub(crate) fn live_entries(alloc: Global, table: &MemTable) -> Result<Entries, A
     let live = table.live();
     let mut copies: Vec<(Bytes, Cell)> = Vec::with_capacity(alloc, live.len())?;
     for (key, cell) in live {
-        copies.push((key.clone()?, cell.copy()?))?;
+        copies.push((key.bytes().clone()?, cell.copy()?))?;
     }
     Ok(Entries { items: copies })
 }

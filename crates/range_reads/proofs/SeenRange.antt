@@ -4,6 +4,7 @@ use Rattle.std.specs.Prelude.{option_to_list}
 use Rattle.wire.specs.declared.actor.ReqNo.{ReqNo}
 use Rattle.wire.specs.declared.packet.Packet.{Packet}
 use Rattle.model_partition.specs.declared.server_context.ServerContext.{ServerContext}
+use Rattle.model_partition.specs.declared.table_note.TableNote.{TableNote}
 use Rattle.model_partition.specs.declared.waiting.WaitingGet.{WaitingGet}
 use Rattle.checkpoint.specs.declared.installed_index.InstalledIndex.{InstalledIndex}
 use Rattle.checkpoint.specs.Lookup.{looked_up}
@@ -24,6 +25,7 @@ use Rattle.range_reads.specs.Lookups.{LookupsState, Sees, IsOf, seen, tried_of}
 pub is_seen : (r : RangeState) (a : Asking) (held : Values) → Sees r a → seen a held r ≡ record r { held = held }
 is_seen r a held s = λ i.
     record r {
+      load = record r.load { range = s.range i; generation = s.generation i };
       until = s.until i;
       pause = s.pause i;
       live = s.live i;
@@ -35,27 +37,27 @@ is_seen r a held s = λ i.
       held = held;
     }
 
-pub get_taken : (d : ServerContext) (r : RangeState) (a : Asking) (s : LookupsState) (g : WaitingGet) (one : OneTry) (held : Values) (gets : List WaitingGet) (packets : List Packet) → Sees r a → IsOf r s
-    → tried_of one ≡ try d (seen a s.held r) g → gets ≡ s.gets ++ option_to_list one.waiting → packets ≡ option_to_list one.packet
-    → gets_after (record r { held = held }) r.gets (try d r g) ≡ record { after = Some (record r { gets = gets; held = held }); count = one.count; packets = packets; notes = [] }
-get_taken d r a s g one held gets packets sees own tried gets_are packets_are =
+pub get_taken : (d : ServerContext) (r : RangeState) (a : Asking) (s : LookupsState) (g : WaitingGet) (one : OneTry) (held : Values) (gets : List WaitingGet) (packets : List Packet) (notes : List TableNote) → Sees r a → IsOf r s
+    → tried_of one ≡ try d (seen a s.held r) g → gets ≡ s.gets ++ option_to_list one.waiting → packets ≡ option_to_list one.packet → notes ≡ option_to_list one.note
+    → gets_after (record r { held = held }) r.gets (try d r g) ≡ record { after = Some (record r { gets = gets; held = held }); count = one.count; packets = packets; notes = notes }
+get_taken d r a s g one held gets packets notes sees own tried gets_are packets_are notes_are =
     let same : seen a s.held r ≡ r = is_seen r a s.held sees ∙ ap (λ (h : Values). record r { held = h }) own.held in
     let is : try d r g ≡ tried_of one = ap (λ (x : RangeState). try d x g) (sym same) ∙ sym tried in
     let all : r.gets ++ option_to_list one.waiting ≡ gets = ap (λ (l : List WaitingGet). l ++ option_to_list one.waiting) (sym own.gets) ∙ sym gets_are in
     ap (gets_after (record r { held = held }) r.gets) is
-    ∙ (λ i. record { after = Some (record r { gets = all i; held = held }); count = one.count; packets = sym packets_are i; notes = [] })
+    ∙ (λ i. record { after = Some (record r { gets = all i; held = held }); count = one.count; packets = sym packets_are i; notes = sym notes_are i })
 
 abbrev pub bytes_with : ServerContext → RangeState → ReqNo → Values → RangeOutcome
 bytes_with d r w held = gets_after (record r { held = held }) [] (try_all d (record r { held = held }) (map (without w) r.gets))
 
 -- bytes that spell no page
-pub none_taken : (d : ServerContext) (r : RangeState) (s : LookupsState) (w : ReqNo) (place : Place) (bytes : List ℕ) (packets : List Packet) → IsOf r s → are_no_page (read_at r.gets w) bytes ≡ true → packets ≡ []
-    → bytes_rule d r w place bytes ≡ record { after = Some (record r { gets = s.gets; held = s.held }); count = d.count; packets = packets; notes = [] }
-none_taken d r s w place bytes packets own none empty =
-    rw none (λ i. record { after = Some (record r { gets = sym own.gets i; held = sym own.held i }); count = d.count; packets = sym empty i; notes = [] })
+pub none_taken : (d : ServerContext) (r : RangeState) (s : LookupsState) (w : ReqNo) (place : Place) (bytes : List ℕ) (packets : List Packet) (notes : List TableNote) → IsOf r s → are_no_page (read_at r.gets w) bytes ≡ true → packets ≡ [] → notes ≡ []
+    → bytes_rule d r w place bytes ≡ record { after = Some (record r { gets = s.gets; held = s.held }); count = d.count; packets = packets; notes = notes }
+none_taken d r s w place bytes packets notes own none empty silent =
+    rw none (λ i. record { after = Some (record r { gets = sym own.gets i; held = sym own.held i }); count = d.count; packets = sym empty i; notes = sym silent i })
 
 pub bytes_taken : (d : ServerContext) (r : RangeState) (a : Asking) (s : LookupsState) (w : ReqNo) (gets : List WaitingGet) (held after : Values) (t : Tried) → Sees r a → IsOf r s → gets ≡ s.gets → after ≡ held
-    → try_all d (seen a held r) (map (without w) gets) ≡ t → bytes_with d r w after ≡ record { after = Some (record r { gets = t.waiting; held = after }); count = t.count; packets = t.packets; notes = [] }
+    → try_all d (seen a held r) (map (without w) gets) ≡ t → bytes_with d r w after ≡ record { after = Some (record r { gets = t.waiting; held = after }); count = t.count; packets = t.packets; notes = t.notes }
 bytes_taken d r a s w gets held after t sees own gets_are after_is tried =
     let is : try_all d (record r { held = after }) (map (without w) r.gets) ≡ t =
     ap (λ (h : Values). try_all d (record r { held = h }) (map (without w) r.gets)) after_is

@@ -14,6 +14,8 @@ pub record LookupsState : Type 0 where
 
 -- what is looked at is the range's
 pub record Sees (r : RangeState) (a : Asking) : Type 0 where
+  pub range : a.range ≡ r.load.range
+  pub generation : a.generation ≡ r.load.generation
   pub until : a.until ≡ r.until
   pub pause : a.pause ≡ r.pause
   pub live : a.table.now.live ≡ r.live
@@ -32,6 +34,7 @@ pub record IsOf (r : RangeState) (s : LookupsState) : Type 0 where
 abbrev pub seen : Asking → Values → RangeState → RangeState
 seen a held r =
     record r {
+      load = record r.load { range = a.range; generation = a.generation };
       until = a.until;
       pause = a.pause;
       live = a.table.now.live;
@@ -44,4 +47,5 @@ seen a held r =
     }
 
 abbrev pub tried_of : OneTry → Tried
-tried_of one = record { waiting = option_to_list one.waiting; count = one.count; packets = option_to_list one.packet }
+tried_of one =
+    record { waiting = option_to_list one.waiting; count = one.count; packets = option_to_list one.packet; notes = option_to_list one.note }

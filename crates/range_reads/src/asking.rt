@@ -6,13 +6,15 @@ use block_types::Nodes;
 use checkpoint::InstalledIndexes;
 use memtable::MemTable;
 use model_partition::{Pause, ServerContext};
-use wire::{ExtentId, StreamExtent};
+use wire::{ExtentId, Fence, RangeId, StreamExtent};
 
-/// What a try of a Get looks at: the server, the end of the range's lease, in ticks, what the range takes, its memory table, the
-/// indexes below it, and the extents of the streams that pages and values stand in.
+/// What a try of a Get looks at: the server, the range and its generation, the end of its lease, in ticks, what it takes, its
+/// memory table, the indexes below it, and the extents of the streams that pages and values stand in.
 #[derive(Drop)]
 pub struct Asking<'a> {
     pub context: &'a ServerContext,
+    pub range: RangeId,
+    pub generation: Fence,
     pub until: u64,
     pub pause: Pause,
     pub table: &'a MemTable,

@@ -6,6 +6,7 @@
 //! What the layers above may build on, each a clause here:
 //! - `get` answers a Get at once, or keeps it and asks for the page or the value that it needs. What it found is then the most
 //!   recently used, of the pages that may have the key and of values.
+//! - Each answer is an observation of its key and its value, under the range's generation, also where the Get waited.
 //! - `bytes` takes what was read, tries each Get again, and holds the bytes only where a read that waits asked for just these.
 //!   Bytes that spell no page where one is wanted change nothing.
 //! - `give_up` sends the last read of each Get to the next place.
@@ -16,6 +17,7 @@
 #![tactic(auto)]
 
 mod adding;
+mod answered;
 mod asking;
 mod awaited;
 mod cache_view;

@@ -21,8 +21,8 @@ use crate::usage::{pages_used, promote_each, promote_some, value_used};
 use crate::value_cache::{Fresh, ValueCache};
 use bytes::Bytes;
 use checkpoint::{Lookup, Pages};
-use memtable::Place;
-use model_partition::{PlaceReads, ServerContext, WaitingGet};
+use memtable::{Key, Place};
+use model_partition::{PlaceReads, ServerContext, TableNote, WaitingGet};
 use std::alloc::{AllocError, Global};
 use std::marker::Model;
 use wire::{ActorId, ExtentId, Packet, ReqNo};
@@ -30,11 +30,12 @@ use wire::{ActorId, ExtentId, Packet, ReqNo};
 /// How many Gets of a range wait at most.
 pub const MAX_GETS: usize = 256;
 
-/// What a step leaves: the number of the server's next request, and the packets.
+/// What a step leaves: the number of the server's next request, the packets, and the observations.
 #[derive(Drop)]
 pub struct Tried {
     pub count: u64,
     pub packets: Vec<Packet>,
+    pub notes: Vec<TableNote>,
 }
 
 /// The Gets of a range that wait, at most 256, and the pages and values that were read for Gets, the most recently used first.
@@ -83,12 +84,13 @@ impl Pages for Lookups {
     }
 }
 
-fn packets_of(alloc: Global, packet: Option<Packet>) -> Result<Vec<Packet>, AllocError>
-    ensures { IfOk result (λ packets. packets.items ≡ option_to_list packet) }
+/// A list of what there may be.
+fn list_of<T: Drop>(alloc: Global, item: Option<T>) -> Result<Vec<T>, AllocError>
+    ensures { IfOk result (λ items. items.items ≡ option_to_list item) }
 {
-    let mut packets = Vec::new(alloc);
-    push_some(&mut packets, packet)?;
-    Ok(packets)
+    let mut items = Vec::new(alloc);
+    push_some(&mut items, item)?;
+    Ok(items)
 }
 
 fn hold_some(held: &mut ValueCache, fresh: Option<Fresh>) -> Result<(), AllocError>
@@ -131,7 +133,7 @@ impl Lookups {
     /// A Get of a key that is not refused otherwise: it is refused where the range is paused or the lease has ended, else answered, or kept, with a read
     /// of what it needs. That there is room for it and a number for the read is the caller's condition. Where the memory table has
     /// no cell of the key, the pages that may have it become the most recently used, that of the oldest index last, and then the
-    /// value that it finds. Where memory runs out (22) nothing has changed.
+    /// value that it finds. What is answered is shown. Where memory runs out (22) nothing has changed.
     pub fn get(
         &mut self,
         alloc: Global,
@@ -144,14 +146,16 @@ impl Lookups {
         requires numbers { asking.now.context.now.count + 1024 < 2 ^ 64 }
         ensures ok { IfOk result (λ tried. (r : RangeState) → Sees r asking.now → IsOf r self.old
             → gets_of asking.now.context.now r from number key None
-            ≡ record { after = Some (record r { gets = self.new.gets; held = self.new.held }); count = tried.count; packets = tried.packets.items; notes = [] }) }
+            ≡ record { after = Some (record r { gets = self.new.gets; held = self.new.held }); count = tried.count; packets = tried.packets.items; notes = tried.notes.items }) }
         ensures bound { IfOk result (λ tried. length tried.packets.items ≤ 256) }
+        ensures few { IfOk result (λ tried. length tried.notes.items ≤ 256) }
         ensures err { OnErr result (self.new ≡ self.old) }
     {
         let view = CacheView {
             held: &self.held,
             fresh: &None,
         };
+        let key = Key::of(key);
         let cell = asking.table.get(&key);
         let found = newest_cell(asking, &view, &key, cell)?;
         let place = value_used(&found);
@@ -169,17 +173,23 @@ impl Lookups {
             waiting,
             count,
             packet,
+            note,
         } = one;
-        let packets = packets_of(alloc, packet)?;
+        let packets = list_of(alloc, packet)?;
+        let notes = list_of(alloc, note)?;
         push_some(&mut self.gets, waiting)?;
         promote_each(&mut self.held, &pages);
         promote_some(&mut self.held, &place);
-        Ok(Tried { count, packets })
+        Ok(Tried {
+            count,
+            packets,
+            notes,
+        })
     }
 
     /// The bytes of a read of this number have come: each Get is tried again, without that read. They are held only where a read
     /// of this number asked for just these. Where a page was asked for and the bytes spell none, nothing changes and nothing is
-    /// sent. Where memory runs out (22) nothing has changed.
+    /// sent. What is answered is shown. Where memory runs out (22) nothing has changed.
     pub fn bytes(
         &mut self,
         alloc: Global,
@@ -192,8 +202,9 @@ impl Lookups {
         requires { asking.now.context.now.count + 1024 < 2 ^ 64 }
         ensures ok { IfOk result (λ tried. (r : RangeState) → Sees r asking.now → IsOf r self.old
             → bytes_rule asking.now.context.now r number.now (place_of extent offset bytes.now) bytes.now
-            ≡ record { after = Some (record r { gets = self.new.gets; held = self.new.held }); count = tried.count; packets = tried.packets.items; notes = [] }) }
+            ≡ record { after = Some (record r { gets = self.new.gets; held = self.new.held }); count = tried.count; packets = tried.packets.items; notes = tried.notes.items }) }
         ensures bound { IfOk result (λ tried. length tried.packets.items ≤ 256) }
+        ensures few { IfOk result (λ tried. length tried.notes.items ≤ 256) }
         ensures err { OnErr result (self.new ≡ self.old) }
     {
         let asked = read_of(&self.gets, number);
@@ -202,6 +213,7 @@ impl Lookups {
             return Ok(Tried {
                 count: asking.context.count,
                 packets: Vec::new(alloc),
+                notes: Vec::new(alloc),
             });
         };
         let fresh = fresh_of(&asked, extent, offset, kept);
@@ -215,9 +227,14 @@ impl Lookups {
             waiting,
             count,
             packets,
+            notes,
         } = tries;
         self.gets = waiting;
-        Ok(Tried { count, packets })
+        Ok(Tried {
+            count,
+            packets,
+            notes,
+        })
     }
 
     /// The last read of each Get goes to the next place of its extent, with its number. Where memory runs out (22) nothing has

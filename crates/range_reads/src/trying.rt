@@ -1,15 +1,15 @@
 //! One try of a Get.
-ghost use Rattle.std.specs.Prelude.{ℕ, ◌≡◌, ◌+◌, ◌++◌, ◌∷◌, ◌<◌, ◌≤◌, ◌^◌, [], Some, None, filter, map, not, length, option_to_list, IfOk, OnOk};
-ghost use Rattle.client.specs.Requests.{is_same as are_same};
+ghost use Rattle.std.specs.Prelude.{ℕ, ◌≡◌, ◌+◌, ◌++◌, ◌∷◌, ◌<◌, ◌≤◌, ◌^◌, [], Some, None, map, length, option_to_list, IfOk, OnOk};
 ghost use Rattle.range_reads.specs.Lookups.{seen, tried_of};
 ghost use Rattle.range_reads.specs.Looking.{answer_of, newest_cell as newest_of, view_content};
 ghost use Rattle.memtable.specs.Layers.{cell_at};
-ghost use Rattle.model_partition.specs.Getting.{try as tries, try_all, try_fault, held_at, asks_place as asks_of, without as without_read};
+ghost use Rattle.model_partition.specs.Getting.{Is, answered as answered_of, try as tries, try_all, try_fault, held_at, asks_place as asks_of, without as without_read};
 ghost use Rattle.model_partition.specs.PlaceReads.{places_in as nodes_in};
 ghost use Rattle.range_reads.specs.ValueCache.{Values};
 ghost use Rattle.model_partition.specs.Range.{RangeState, refuses as refuses_of};
 
 use crate::adding::push_some;
+use crate::answered::without;
 use crate::asking::{Asking, places_of};
 use crate::cache_view::CacheView;
 use crate::key_lookup::{Found, newest_cell, value_or_place};
@@ -18,25 +18,28 @@ use checkpoint::Lookup;
 use client::Place as Replica;
 use memtable::Place;
 use model_partition::{
-    PlaceRead, PlaceReads, ServerContext, WaitingGet, next_request, reads_place,
+    PlaceRead, PlaceReads, ServerContext, TableNote, WaitingGet, next_request, reads_place,
 };
 use std::alloc::{AllocError, Global};
 use wire::{ActorId, AppendBody, Body, Packet, Refusal, ReqNo, TableBody};
 
-/// What a try leaves: the Get, if it still waits, the number of the next request, and the packet, if there is one.
+/// What a try leaves: the Get, if it still waits, the number of the next request, the packet, if there is one, and what is shown
+/// of the answer, if it is one.
 #[derive(Drop)]
 pub(crate) struct OneTry {
     pub(crate) waiting: Option<WaitingGet>,
     pub(crate) count: u64,
     pub(crate) packet: Option<Packet>,
+    pub(crate) note: Option<TableNote>,
 }
 
-/// What tries leave: the Gets that still wait, the number of the next request, and the packets.
+/// What tries leave: the Gets that still wait, the number of the next request, the packets, and the observations.
 #[derive(Drop)]
 pub(crate) struct Tries {
     pub(crate) waiting: Vec<WaitingGet>,
     pub(crate) count: u64,
     pub(crate) packets: Vec<Packet>,
+    pub(crate) notes: Vec<TableNote>,
 }
 
 fn with_read(alloc: Global, reads: &PlaceReads, read: PlaceRead) -> Result<PlaceReads, AllocError>
@@ -65,6 +68,7 @@ fn asks_place(
             waiting: Some(get),
             count,
             packet: None,
+            note: None,
         }),
         Some(places) => {
             let request = next_request(&ServerContext {
@@ -82,6 +86,7 @@ fn asks_place(
                     waiting: Some(WaitingGet { reads, ..get }),
                     count: count + 1,
                     packet: Some(reads_place(asking.context, &places, &read)),
+                    note: None,
                 }),
                 Err(full) => Err(full),
             }
@@ -89,8 +94,18 @@ fn asks_place(
     }
 }
 
+/// The same value, which shares its bytes.
+fn shared(value: &Option<Bytes>) -> Result<Option<Bytes>, AllocError>
+    ensures { IfOk result (λ made. made ≡ value.now) }
+{
+    match value {
+        None => Ok(None),
+        Some(bytes) => Ok(Some(bytes.clone()?)),
+    }
+}
+
 /// The packet of a value, or that there is none.
-fn answers(context: &ServerContext, get: &WaitingGet, value: Option<Bytes>) -> Packet
+fn tells_value(context: &ServerContext, get: &WaitingGet, value: Option<Bytes>) -> Packet
     ensures { result ≡ answer_of context.now get.now value }
 {
     Packet {
@@ -101,6 +116,33 @@ fn answers(context: &ServerContext, get: &WaitingGet, value: Option<Bytes>) -> P
             value,
         }),
     }
+}
+
+/// A Get is answered, and shown with what is told: its key and the value share their bytes.
+fn answers(
+    asking: &Asking<'_>,
+    count: u64,
+    get: WaitingGet,
+    value: Option<Bytes>,
+) -> Result<OneTry, AllocError>
+    ensures value { IfOk result (λ one. (held : Values) (r : RangeState)
+        → tried_of one ≡ answered_of (record asking.now.context.now { count = count }) (seen asking.now held r) get (Is value)) }
+    ensures count { IfOk result (λ one. one.count ≡ count) }
+{
+    let shown = shared(&value)?;
+    let packet = tells_value(asking.context, &get, value);
+    let note = TableNote::Got {
+        range: asking.range,
+        generation: asking.generation,
+        key: get.key.into_bytes(),
+        value: shown,
+    };
+    Ok(OneTry {
+        waiting: None,
+        count,
+        packet: Some(packet),
+        note: Some(note),
+    })
 }
 
 /// The packet of a refusal.
@@ -152,14 +194,11 @@ pub(crate) fn one_try(
             waiting: None,
             count,
             packet: Some(packet),
+            note: None,
         });
     }
     match value_or_place(view, found) {
-        Ok(Found::Is(value)) => Ok(OneTry {
-            waiting: None,
-            count,
-            packet: Some(answers(asking.context, &get, value)),
-        }),
+        Ok(Found::Is(value)) => answers(asking, count, get, value),
         Ok(Found::Needs { page, place }) => asks_place(alloc, asking, count, get, page, place),
         Err(full) => Err(full),
     }
@@ -182,46 +221,18 @@ fn next_try(
     one_try(alloc, asking, view, count, get, &found)
 }
 
-fn other_reads(
-    alloc: Global,
-    reads: &[PlaceRead],
-    answered: &ReqNo,
-) -> Result<Vec<PlaceRead>, AllocError>
-    ensures { IfOk result (λ made. made.items ≡ filter (λ read. not (are_same read.request answered.now)) reads.now) }
-{
-    reads
-        .iter()
-        .filter(|read| read.request != *answered)
-        .copied()
-        .collect(alloc)
-}
-
-/// The Get without the read that was answered. It shares its key.
-fn without(alloc: Global, answered: &ReqNo, get: &WaitingGet) -> Result<WaitingGet, AllocError>
-    ensures { IfOk result (λ made. made ≡ without_read answered.now get.now) }
-{
-    let key = get.key.clone()?;
-    let reads = PlaceReads {
-        items: other_reads(alloc, &get.reads.items, answered)?,
-    };
-    Ok(WaitingGet {
-        from: get.from,
-        request: get.request,
-        key,
-        reads,
-    })
-}
-
 /// No try yet, with room for what so many leave.
 fn no_tries(alloc: Global, count: u64, most: usize) -> Result<Tries, AllocError>
     ensures waiting { IfOk result (λ tries. tries.waiting.items ≡ []) }
     ensures count { IfOk result (λ tries. tries.count ≡ count) }
     ensures packets { IfOk result (λ tries. tries.packets.items ≡ []) }
+    ensures notes { IfOk result (λ tries. tries.notes.items ≡ []) }
 {
     Ok(Tries {
         waiting: Vec::with_capacity(alloc, most)?,
         count,
         packets: Vec::with_capacity(alloc, most)?,
+        notes: Vec::with_capacity(alloc, most)?,
     })
 }
 
@@ -237,9 +248,10 @@ pub(crate) fn try_each(
     requires most { length gets.now ≤ 256 }
     ensures value { IfOk result (λ tries. (r : RangeState)
         → try_all asking.now.context.now (seen asking.now (view_content view.now) r) (map (without_read answered.now) gets.now)
-        ≡ record { waiting = tries.waiting.items; count = tries.count; packets = tries.packets.items }) }
+        ≡ record { waiting = tries.waiting.items; count = tries.count; packets = tries.packets.items; notes = tries.notes.items }) }
     ensures waiting { IfOk result (λ tries. length tries.waiting.items ≤ length gets.now) }
     ensures packets { IfOk result (λ tries. length tries.packets.items ≤ length gets.now) }
+    ensures notes { IfOk result (λ tries. length tries.notes.items ≤ length gets.now) }
 {
     let mut tries = no_tries(alloc, asking.context.count, gets.len())?;
     for get in gets {
@@ -254,14 +266,17 @@ fn take_in(tries: &mut Tries, one: OneTry) -> Result<(), AllocError>
     ensures waiting { OnOk result (tries.new.waiting.items ≡ tries.old.waiting.items ++ option_to_list one.waiting) }
     ensures count { OnOk result (tries.new.count ≡ one.count) }
     ensures packets { OnOk result (tries.new.packets.items ≡ tries.old.packets.items ++ option_to_list one.packet) }
+    ensures notes { OnOk result (tries.new.notes.items ≡ tries.old.notes.items ++ option_to_list one.note) }
 {
     let OneTry {
         waiting,
         count,
         packet,
+        note,
     } = one;
     push_some(&mut tries.waiting, waiting)?;
     push_some(&mut tries.packets, packet)?;
+    push_some(&mut tries.notes, note)?;
     tries.count = count;
     Ok(())
 }

@@ -1,5 +1,5 @@
 //! What the single words of a line spell.
-ghost use Rattle.std.specs.Prelude.{◌≡◌, ◌<◌, ℕ, List, Some, map, min, length, IfNone, IfOk, IfSome};
+ghost use Rattle.std.specs.Prelude.{◌≡◌, ◌∷◌, ◌<◌, ℕ, List, [], Some, map, min, length, IfNone, IfOk, IfSome};
 ghost use Rattle.std.specs.List.{AllByRecursion};
 ghost use Rattle.script_lines.specs.Copies.{bytes_of};
 ghost use Rattle.script_lines.specs.Sequences.{Reads, each};
@@ -189,6 +189,28 @@ fn values<'a>(alloc: Global, words: &[&'a str]) -> Result<Option<Vec<Copies<'a>>
 
 /// The blocks of these words, which share one piece of memory.
 pub fn blocks(alloc: Global, words: &[&str]) -> Result<Option<Blocks>, AllocError>
+    ensures { IfOk result (λ blocks. Reads
+        (λ list texts. each (λ bytes text. IsValue text bytes) list texts) blocks (map (λ w. w.now) words.now)) }
+{
+    match words {
+        [word] => one_block(alloc, word),
+        _ => many_blocks(alloc, words),
+    }
+}
+
+/// The block of a word that is alone, for which no list of values is made.
+fn one_block(alloc: Global, word: &str) -> Result<Option<Blocks>, AllocError>
+    ensures { IfOk result (λ blocks. Reads
+        (λ list texts. each (λ bytes text. IsValue text bytes) list texts) blocks (word.now ∷ [])) }
+{
+    match value(word) {
+        Some(copies) => Ok(Some(blocks_of(alloc, &[copies])?)),
+        None => Ok(None),
+    }
+}
+
+/// The blocks of any number of words.
+fn many_blocks(alloc: Global, words: &[&str]) -> Result<Option<Blocks>, AllocError>
     ensures { IfOk result (λ blocks. Reads
         (λ list texts. each (λ bytes text. IsValue text bytes) list texts) blocks (map (λ w. w.now) words.now)) }
 {

@@ -49,6 +49,10 @@ report_text (reports.Done range generation number) =
     codes "done " ++ decimal range ++ 32 ∷ decimal generation ++ 32 ∷ decimal number
 report_text (reports.Loaded range generation next rows) =
     codes "loaded " ++ decimal range ++ 32 ∷ decimal generation ++ 32 ∷ decimal next ++ 32 ∷ decimal rows
+report_text (reports.Got range generation key (Some size)) =
+    codes "got " ++ decimal range ++ 32 ∷ decimal generation ++ 32 ∷ key ++ 32 ∷ decimal size
+report_text (reports.Got range generation key None) =
+    codes "got " ++ decimal range ++ 32 ∷ decimal generation ++ 32 ∷ key ++ codes " none"
 report_text (reports.Split range low high key) =
     codes "split " ++ decimal range ++ 32 ∷ decimal low ++ 32 ∷ decimal high ++ 32 ∷ key
 report_text (reports.Merged left right range) =

@@ -1,5 +1,5 @@
 -- What deliveries and observations print.
-use Rattle.std.specs.Prelude.{ℕ, length, Option, Some, None}
+use Rattle.std.specs.Prelude.{ℕ, List, length, Option, Some, None}
 use Rattle.block_types.specs.Limits.{group_size, groups_size}
 use Rattle.wire.specs.declared.actor.ActorId.{ActorId}
 use Rattle.wire.specs.declared.actor.ActorId.TheVariants as actors
@@ -86,11 +86,17 @@ map_observed (notes.Split range low high key) = Some (reports.Split range low hi
 map_observed (notes.Merged left right range) = Some (reports.Merged left right range)
 map_observed other = None
 
--- the line of an observation of a table
+-- how many bytes a value has, if there is one
+abbrev pub size_of : Option (List ℕ) → Option ℕ
+size_of None = None
+size_of (Some bytes) = Some (length bytes)
+
+-- the line of an observation of a table; the key that was asked for in two digits a byte
 abbrev pub table_observed : Note → Option Report
 table_observed (notes.Began range generation number changes) = Some (reports.Began range generation number)
 table_observed (notes.Done range generation number) = Some (reports.Done range generation number)
 table_observed (notes.Loaded range generation rows next) = Some (reports.Loaded range generation next (length rows))
+table_observed (notes.Got range generation key value) = Some (reports.Got range generation (shown_bytes key) (size_of value))
 table_observed other = map_observed other
 
 -- the line of an observation

@@ -9,6 +9,7 @@ mod hex_text;
 mod line;
 mod report;
 mod short_line;
+mod table_telling;
 mod telling;
 
 pub use hex_text::HexText;

@@ -86,6 +86,13 @@ pub enum Report {
         next: u64,
         rows: u64,
     },
+    /// A server answered a Get of a key: how many bytes the value has, if there is one.
+    Got {
+        range: u64,
+        generation: u64,
+        key: HexText,
+        length: Option<u64>,
+    },
     /// The map split a range at a key: the numbers of its halves, and the key.
     Split {
         range: u64,
@@ -212,6 +219,18 @@ impl fmt::Display for Report {
                 next,
                 rows,
             } => write_four(f, "loaded", range, generation, next, rows),
+            Report::Got {
+                range,
+                generation,
+                key,
+                length: Some(length),
+            } => write_four(f, "got", range, generation, key, length),
+            Report::Got {
+                range,
+                generation,
+                key,
+                length: None,
+            } => write_four(f, "got", range, generation, key, &"none"),
             Report::Split {
                 range,
                 low,

@@ -1,10 +1,11 @@
 //! What deliveries and observations print.
 ghost use Rattle.std.specs.Prelude.{◌≡◌, Some, IfOk};
 ghost use Rattle.block_types.specs.Limits.{groups_size};
-ghost use Rattle.script_reports.specs.Telling.{answer_of, append_answer, map_answer, map_observed, observed, read_answer, seal_answer, stream_answer, table_answer, table_observed, told_to, told_with};
+ghost use Rattle.script_reports.specs.Telling.{answer_of, append_answer, map_answer, observed, read_answer, seal_answer, stream_answer, table_answer, told_to, told_with};
 
 use crate::hex_text::HexText;
 use crate::report::{Answer, Report};
+use crate::table_telling::report_table;
 use block_types::Group;
 use std::alloc::{AllocError, Global};
 use wire::{
@@ -173,73 +174,6 @@ pub fn report_answer(alloc: Global, packet: &Packet) -> Result<Option<Report>, A
         Ok(Some((number, answer))) => Ok(told(user, number, answer)),
         Ok(None) => Ok(None),
         Err(refused) => Err(refused),
-    }
-}
-
-/// The line of an observation of the map, if it has one.
-fn report_map(alloc: Global, note: &Note) -> Result<Option<Report>, AllocError>
-    ensures { IfOk result (λ report. report ≡ map_observed note.now) }
-{
-    match note {
-        Note::Split {
-            range,
-            low,
-            high,
-            key,
-        } => match HexText::of(alloc, key.as_slice()) {
-            Ok(text) => Ok(Some(Report::Split {
-                range: range.0,
-                low: low.0,
-                high: high.0,
-                key: text,
-            })),
-            Err(refused) => Err(refused),
-        },
-        Note::Merged { left, right, range } => Ok(Some(Report::Merged {
-            left: left.0,
-            right: right.0,
-            range: range.0,
-        })),
-        _ => Ok(None),
-    }
-}
-
-/// The line of an observation of a table, or of the map, if it has one.
-fn report_table(alloc: Global, note: &Note) -> Result<Option<Report>, AllocError>
-    ensures { IfOk result (λ report. report ≡ table_observed note.now) }
-{
-    match note {
-        Note::Began {
-            range,
-            generation,
-            number,
-            changes: _,
-        } => Ok(Some(Report::Began {
-            range: range.0,
-            generation: generation.0,
-            number: *number,
-        })),
-        Note::Done {
-            range,
-            generation,
-            number,
-        } => Ok(Some(Report::Done {
-            range: range.0,
-            generation: generation.0,
-            number: *number,
-        })),
-        Note::Loaded {
-            range,
-            generation,
-            rows,
-            next,
-        } => Ok(Some(Report::Loaded {
-            range: range.0,
-            generation: generation.0,
-            next: *next,
-            rows: rows.items.len() as u64,
-        })),
-        _ => report_map(alloc, note),
     }
 }
 

@@ -7,27 +7,30 @@
 //!     stampctl trace [FILE]                   runs it, and prints each event with the packets that it sent
 //!     stampctl draw [FILE] [--from N] [--to M]    runs it, and writes a drawing of events N to M, as SVG
 //!     stampctl dump FILE                      prints the records of an actor's record file
+//!     stampctl migrate FILE NEW               makes a record file of version 2 with the records of another
 //!     stampctl --help                         tells these, on standard output
 //!
-//! Without FILE the script is that on standard input; a record file must be named. A `--` may stand before FILE, so that the file's name may begin with a hyphen. What the words name is told by
-//! `stampctl_words`, and `stampctl_tasks` does it.
+//! Without FILE the script is that on standard input; a record file and a new one must be named. A `--` may stand before a file's
+//! name, so that it may begin with a hyphen. What the words name is told by `stampctl_words`, and `stampctl_tasks` does it.
 //!
 //! # What it touches
 //!
-//! The program reads its words, one file or the standard input, and writes lines to the standard output and texts about
-//! wrong words, about a line that cannot be read and about a file that cannot to the standard error; it touches nothing else. The disks of nodes, of the manager and of the map are in
-//! memory, and so is the network, so that a script always prints the same. The whole script is read and tested before its
+//! The program reads its words, one file or the standard input, makes the new file of a migration, and writes lines to the standard
+//! output and texts about wrong words, about a line that cannot be read and about a file that cannot be read or made to the standard
+//! error; it touches nothing else. The disks of nodes, of the manager and of the map are in memory, and so is the network, so that a script always prints the same. The whole script is read and tested before its
 //! first event runs; then output leaves as it comes, whole lines at a time, of which at most 64 KiB are kept unless one line is
 //! longer. Where memory runs out, the lines so far are printed, and 22 is told. Where the output cannot be written, nothing more is
-//! printed. A record file is opened for reading alone, and read whole before its first line.
+//! printed. A record file is opened for reading alone, and read whole before its first line or before a new file is made. A
+//! migration that is refused leaves no new file.
 //!
 //! # Statuses
 //!
-//! - 0: the script ran to its end, the file was dumped, or help was asked for.
+//! - 0: the script ran to its end, the file was dumped or migrated, or help was asked for.
 //! - 1: a refusal, told by the line `refused N Name` at the end of the output, or the output could not be written. N is
 //!   - 60: the text is no script. The standard error names the first line at which it is none, as `line 2 cannot be read: foo`;
-//!   - 62: the file cannot be read. The standard error gives the system's reason;
-//!   - 21: the file that is to be dumped is no record file;
+//!   - 62: the file cannot be read, or the new one is there or cannot be made. The standard error gives the system's reason;
+//!   - 20: the new file cannot be written;
+//!   - 21: the file that is to be dumped or migrated is no record file, or a Fill in one that is to be migrated is longer than any extent;
 //!   - 22: memory ran out.
 //! - 2: wrong words. The standard error says how, and nothing runs.
 //!
@@ -77,6 +80,8 @@ mod failover;
 mod many_values;
 #[cfg(test)]
 mod merge_giving_up;
+#[cfg(test)]
+mod migrations;
 #[cfg(test)]
 mod page_rows;
 #[cfg(test)]

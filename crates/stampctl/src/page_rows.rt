@@ -4,7 +4,7 @@ ghost use Rattle.checkpoint.specs.Lookup.{HasIndex};
 
 use bytes::Bytes;
 use checkpoint::{Index, InstalledIndex, InstalledIndexes, PageAt, PageList};
-use memtable::{Cell, Place};
+use memtable::{Cell, Cells, Key, Place};
 use metadata::KeyRange;
 use model_partition::TableView;
 use std::alloc::Global;
@@ -124,14 +124,14 @@ fn notes_of(alloc: Global, seen: &[(u32, &'static [u8])]) -> Result<Vec<Note>, F
     Ok(notes)
 }
 
-fn entries_of(alloc: Global, changes: &[Change]) -> Result<BTreeMap<Bytes, Cell>, Fail> {
+fn entries_of(alloc: Global, changes: &[Change]) -> Result<Cells, Fail> {
     let mut entries = BTreeMap::new(alloc);
     for (key, value) in changes {
         let cell = match value {
             None => Cell::Deleted,
             Some(value) => Cell::Inline(Bytes::from_static(value)),
         };
-        entries.insert(Bytes::from_static(key), cell)?;
+        entries.insert(Key::of(Bytes::from_static(key)), cell)?;
     }
     Ok(entries)
 }

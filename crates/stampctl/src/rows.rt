@@ -2,7 +2,7 @@
 use block_types::{Group, Groups};
 use bytes::Bytes;
 use checkpoint::InstalledIndexes;
-use memtable::{Cell, Place};
+use memtable::{Cell, Key, Place};
 use metadata::KeyRange;
 use model_partition::TableView;
 use std::alloc::Global;
@@ -151,7 +151,7 @@ fn notes_of(alloc: Global, observed: &[Observed]) -> Result<Vec<Note>, Fail> {
 /// The rows of a table with this cell alone.
 fn rows(alloc: Global, kept: &Kept, notes: &[Note]) -> Result<Rows, Fail> {
     let mut entries = BTreeMap::new(alloc);
-    entries.insert(Bytes::from_static(b"k"), cell_of(kept))?;
+    entries.insert(Key::of(Bytes::from_static(b"k")), cell_of(kept))?;
     let mut seen = SeenByExtent::new(alloc);
     seen.follow(alloc, notes)?;
     let keys = KeyRange {

@@ -10,10 +10,11 @@ enum Wanted<'a> {
     Trace(Option<&'a str>),
     Draw(Option<&'a str>, Option<u64>, Option<u64>),
     Dump(&'a str),
+    Migrate(&'a str, &'a str),
     Wrong,
 }
 
-use Wanted::{Draw, Dump, Run, Trace, Wrong};
+use Wanted::{Draw, Dump, Migrate, Run, Trace, Wrong};
 
 /// Words, and the task that they name.
 type Case = (&'static [&'static str], Wanted<'static>);
@@ -69,6 +70,17 @@ const CASES: &[Case] = &[
     (&["stampctl", "dump", "-"], Dump("-")),
     (&["stampctl", "dump", "--", "-x"], Dump("-x")),
     (&["stampctl", "dump", "a", "--"], Dump("a")),
+    (&["stampctl", "migrate", "a", "b"], Migrate("a", "b")),
+    (&["stampctl", "migrate", "a", "-"], Migrate("a", "-")),
+    (
+        &["stampctl", "migrate", "--", "-x", "--"],
+        Migrate("-x", "--"),
+    ),
+    (
+        &["stampctl", "migrate", "a", "--", "-x"],
+        Migrate("a", "-x"),
+    ),
+    (&["stampctl", "migrate", "a", "a", "--"], Migrate("a", "a")),
     (&["stampctl", "a"], Wrong),
     (&["stampctl", "--", "run"], Wrong),
     (&["stampctl", "storm", "a"], Wrong),
@@ -94,6 +106,13 @@ const CASES: &[Case] = &[
     (&["stampctl", "dump", "a", "b"], Wrong),
     (&["stampctl", "dump", "-x"], Wrong),
     (&["stampctl", "dump", "a", "--from", "3"], Wrong),
+    (&["stampctl", "migrate"], Wrong),
+    (&["stampctl", "migrate", "a"], Wrong),
+    (&["stampctl", "migrate", "--", "a"], Wrong),
+    (&["stampctl", "migrate", "a", "b", "c"], Wrong),
+    (&["stampctl", "migrate", "a", "b", "--", "c"], Wrong),
+    (&["stampctl", "migrate", "-x", "a"], Wrong),
+    (&["stampctl", "migrate", "a", "--new", "b"], Wrong),
 ];
 
 fn owned(alloc: Global, words: &[&str]) -> Result<Vec<String>, Fail> {
@@ -110,6 +129,7 @@ fn names(alloc: Global, words: &[String], wanted: Wanted<'_>) -> bool {
         Ok(Task::Trace(file)) => wanted == Trace(file),
         Ok(Task::Draw { file, from, to }) => wanted == Draw(file, from, to),
         Ok(Task::Dump(file)) => wanted == Dump(file),
+        Ok(Task::Migrate { file, new }) => wanted == Migrate(file, new),
         Err(_wrong) => wanted == Wrong,
     }
 }

@@ -1,5 +1,5 @@
 -- What a task prints.
-use Rattle.std.specs.Prelude.{◌≡◌, ℕ, List, ◌++◌}
+use Rattle.std.specs.Prelude.{◌≡◌, ℕ, List, [], ◌∷◌, ◌++◌, codes, decimal}
 use Rattle.std.specs.declared.io.Write.{Ghosts}
 use Rattle.spool.specs.declared.line_spool.LineSpool.{LineSpool}
 use Rattle.spool.specs.Spool.{HasHandedOnLines, given}
@@ -10,3 +10,7 @@ pub record IsPrinted {W : Type 0} {g : Ghosts W} (IsText : List ℕ → Type 0) 
   pub is : IsText text
   pub all : given new ≡ given old ++ text
   pub lines : HasHandedOnLines new
+
+-- how many records were migrated, and a newline (10)
+abbrev pub migrated_line : ℕ → List ℕ
+migrated_line count = codes "migrated " ++ decimal count ++ 10 ∷ []

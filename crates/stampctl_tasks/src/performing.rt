@@ -10,7 +10,10 @@ ghost use Rattle.record_dump.specs.Dump.{IsDumpOf};
 ghost use Rattle.stampctl_tasks.specs.Printed.{IsPrinted};
 ghost use Rattle.stampctl_words.specs.declared.named.CommandError.TheVariants.{Memory, WrongWords};
 
+use crate::ending::{finish, refused, unread};
 use crate::escaped::Escaped;
+use crate::input::text_of;
+use crate::migration::migrate;
 use record_dump::{BytesFault, dump_bytes};
 use script_drawing::Part;
 use script_lines::lines_of;
@@ -19,18 +22,10 @@ use spool::LineSpool;
 use stampctl_words::{CommandError, Task};
 use std::alloc::Global;
 use std::fs;
-use std::io::{self, Eprint, Print, Read, Write};
+use std::io::{self, Eprint, Print, Write};
 use std::process::ExitCode;
 use std::rt::Files;
 use wire::Refusal;
-
-/// Tells why a task ended early, where there is no buffered writer to tell it.
-fn refused<R: Print>(rt: &R, refusal: Refusal) -> ExitCode
-    ensures { exit_status result ≡ 1 }
-{
-    let _ = rt.println(format_args!("refused {refusal}"));
-    ExitCode::FAILURE
-}
 
 /// Tells the help that was asked for, or how the words are wrong.
 fn tell<R: Eprint + Print>(rt: &R, error: &clap::Error) -> ExitCode
@@ -42,35 +37,6 @@ fn tell<R: Eprint + Print>(rt: &R, error: &clap::Error) -> ExitCode
     match error.print(rt) {
         Err(_) if !error.use_stderr() => ExitCode::FAILURE,
         _ => status,
-    }
-}
-
-/// The whole text of the file, which is opened for reading alone, or of the standard input.
-fn text_of<R: Files + Input>(
-    rt: &R,
-    alloc: Global,
-    path: Option<&str>,
-) -> Result<Vec<u8>, io::Error> {
-    let mut text = Vec::new(alloc);
-    match path {
-        None => rt.reader().read_to_end(&mut text)?,
-        Some(path) => fs::open(rt, path)?.read_to_end(&mut text)?,
-    };
-    Ok(text)
-}
-
-/// Tells why no text was had: the name of what was to be read, and the system's reason.
-fn unread<R: Eprint + Print>(rt: &R, path: Option<&str>, error: io::Error) -> ExitCode
-    ensures { exit_status result ≡ 1 }
-{
-    match Failure::of_input(error) {
-        Failure::NoFile(error) => {
-            let status = refused(rt, Refusal::NoFile);
-            let name = path.unwrap_or("standard input");
-            let _ = rt.eprintln(format_args!("{name}: {error}"));
-            status
-        }
-        _ => refused(rt, Refusal::Memory),
     }
 }
 
@@ -89,26 +55,6 @@ fn tell_line<R: Eprint>(rt: &R, alloc: Global, text: &[u8], number: usize) {
         },
         Err(_) => rt.eprintln(format_args!("line {number} cannot be read")),
     };
-}
-
-/// Prints the whole lines that are left, and how a task ended. Where the output could not be written, nothing more is printed.
-fn finish<R: Print, W: Write + Drop>(
-    rt: &R,
-    ended: Result<(), Refusal>,
-    spool: &mut LineSpool<W>,
-) -> ExitCode
-    ensures refused { IfErr ended (λ _. exit_status result ≡ 1) }
-    ensures told { exit_status result < 2 }
-    ensures same { given spool.new ≡ given spool.old }
-    ensures printed { exit_status result ≡ 0 → HasHandedOnLines spool.new }
-{
-    if spool.flush().is_err() {
-        return ExitCode::FAILURE;
-    }
-    match ended {
-        Ok(()) => ExitCode::SUCCESS,
-        Err(refusal) => refused(rt, refusal),
-    }
 }
 
 /// Prints what is left of what a script printed, and how it ended, and where it is none tells the line. A script that could print no
@@ -255,10 +201,12 @@ fn dump<R: Eprint + Files + Input + Print>(rt: &R, alloc: Global, path: &str) ->
 
 /// Performs a task, or tells why the words name none, and answers the status to end with. A script ends in 0 where it ran to
 /// its end, and in 1 where it was refused or what it wrote could not be printed; where a text is no script the standard error
-/// names the line, and where a file could not be read the reason. A record file that is dumped ends in 0, or in 1 where it could not
-/// be read, is none, or its lines could not be printed; it is never written to. Where memory for the words ran out it is 1; wrong words are
+/// names the line, and where a file could not be read or made the reason. A record file that is dumped ends in 0, or in 1 where it could
+/// not be read, is none, or its lines could not be printed; it is never written to. Nor is one that is migrated, which ends in 0, or in
+/// 1 where it could not be read, is none, or the new file was there or could not be made or written, which is then left as it was, and
+/// where the count could not be printed. Where memory for the words ran out it is 1; wrong words are
 /// told on the standard error and end in 2, and help that was asked for in 0, or in 1 where it could not be printed.
-pub fn perform<R: Eprint + Files + Input + Print>(
+pub fn perform<R: AllocGlobal + Eprint + Files<File = fs::File> + Input + Print>(
     rt: &R,
     alloc: Global,
     task: Result<Task<'_>, CommandError>,
@@ -275,6 +223,7 @@ pub fn perform<R: Eprint + Files + Input + Print>(
         Ok(Task::Trace(path)) => trace(rt, alloc, path),
         Ok(Task::Draw { file, from, to }) => draw(rt, alloc, file, part_of(from, to)),
         Ok(Task::Dump(path)) => dump(rt, alloc, path),
+        Ok(Task::Migrate { file, new }) => migrate(rt, alloc, file, new),
         Err(CommandError::Memory) => refused(rt, Refusal::Memory),
         Err(CommandError::WrongWords(error)) => tell(rt, &error),
     }

@@ -1,12 +1,12 @@
 -- Which call the words name, by what was found after the subcommand's name.
-use Rattle.std.proofs.Common.{◌≡◌, ◌∙◌, ◌<◌, ◌^◌, ℕ, Bool, codes, true, false, refl, ap, sym, subst, inl, inr, arith, List, ◌∷◌, Option, Some, None, is_some, slice_index, Result, Ok, Err}
+use Rattle.std.proofs.Common.{◌≡◌, ◌∙◌, ◌<◌, ◌^◌, ℕ, Bool, codes, true, false, refl, ap, sym, subst, inl, inr, arith, List, ◌∷◌, Option, Some, None, is_some, IsSome, slice_index, Result, Ok, Err}
 use Rattle.std.specs.Str.Parse.{ParsesUnsigned}
-use Rattle.std.proofs.lemmas.Bool.{true≢false}
 use Rattle.clap.specs.Matches.{ReadsOne}
 use Rattle.clap.specs.Walk.{Row, Text, first_of}
-use Rattle.stampctl_words.specs.Words.{Adds, Arguments, Draw, Draws, Dump, Dumps, MayBeFile, Names, Run, Runs, Trace, Traces, no_arguments}
+use Rattle.stampctl_words.specs.Words.{Adds, Arguments, Draw, Draws, Dump, Dumps, MayBeFile, Migrate, Migrates, Names, Run, Runs, Trace, Traces, no_arguments}
 use Rattle.stampctl_words.proofs.RowLemmas.{Holds, IsRead}
-use Rattle.stampctl_words.proofs.WordLemmas.{Called, IsNamed}
+use Rattle.stampctl_words.proofs.SpellingLemmas.{same_in_some}
+use Rattle.stampctl_words.proofs.WordLemmas.{Called, CalledWithTwo, IsCalled, IsNamed}
 
 draw_no_dump : codes "draw" ≡ codes "dump" → ⊥
 draw_no_dump e = let second : ◌≡◌ {A = ℕ} 114 117 = ap (λ (t : Text). slice_index t 1) e in absurd (omega arith)
@@ -66,13 +66,49 @@ module _ (words : List Text) (rows : List Row) (called : Called words (codes "du
   abbrev is_dump : IsDump called.needs_file called.has_options
   is_dump = named_dump called.needs_file called.has_options called.named
 
-  pub dump_has_file : None ≡ first_of (codes "file") rows → ⊥
-  dump_has_file none = true≢false (sym (called.has_file is_dump.0) ∙ sym (ap is_some (none ∙ called.holds.file)))
+  pub dump_has_file : IsSome (first_of (codes "file") rows)
+  dump_has_file = ap is_some called.holds.file ∙ called.has_file is_dump.0
 
   pub called_dump : (file : Text) → Some file ≡ first_of (codes "file") rows → Names MayBeFile words (Dump file)
   called_dump file is =
       subst (λ (ws : List Text). Names MayBeFile ws (Dump file)) (sym called.is)
       (Dumps called.rest called.arguments file (subst (λ (b : Bool). Adds MayBeFile b called.rest no_arguments called.arguments) is_dump.1 called.adds) (sym called.holds.file ∙ sym is))
+
+-- a subcommand with a file at most is not the one with two
+pub with_one : (words : List Text) (name : Text) (rows : List Row) → (name ≡ codes "migrate" → ⊥) → IsCalled words name rows → Called words name rows
+with_one words name rows no_pair (inl called) = called
+with_one words name rows no_pair (inr called) = absurd (no_pair called.named)
+
+pub dump_called : (words : List Text) (rows : List Row) → IsCalled words (codes "dump") rows → Called words (codes "dump") rows
+dump_called words rows called = with_one words (codes "dump") rows (λ e. let bad : codes "dump" ≡ codes "migrate" = e in cc) called
+
+-- the subcommand with two files has them
+module _ (words : List Text) (rows : List Row) where
+  pub with_two : IsCalled words (codes "migrate") rows → CalledWithTwo words (codes "migrate") rows
+  with_two (inr called) = called
+  with_two (inl called) = absurd (go called.needs_file called.has_options called.named)
+    where
+      go : (needs_file has_options : Bool) → IsNamed needs_file has_options (codes "migrate") → ⊥
+      go true true named = named
+      go true false named = let bad : codes "migrate" ≡ codes "dump" = named in cc
+      go false true named = let bad : codes "migrate" ≡ codes "draw" = named in cc
+      go false false (inl named) = let bad : codes "migrate" ≡ codes "run" = named in cc
+      go false false (inr named) = let bad : codes "migrate" ≡ codes "trace" = named in cc
+
+  pub called_migrate : CalledWithTwo words (codes "migrate") rows → (file new : Text) → Some file ≡ first_of (codes "file") rows → Some new ≡ first_of (codes "new") rows
+      → Names MayBeFile words (Migrate file new)
+  called_migrate called file new first second =
+      let file_is : file ≡ called.file = same_in_some _ _ (first ∙ called.holds.0) in
+      let new_is : new ≡ called.new = same_in_some _ _ (second ∙ called.holds.1) in
+      subst (λ (ws : List Text). Names MayBeFile ws (Migrate file new)) (sym called.is)
+      (subst (λ (f : Text). Names MayBeFile (codes "migrate" ∷ called.rest) (Migrate f new)) (sym file_is)
+      (subst (λ (n : Text). Names MayBeFile (codes "migrate" ∷ called.rest) (Migrate called.file n)) (sym new_is) (Migrates called.rest called.file called.new called.are)))
+
+  pub has_first : CalledWithTwo words (codes "migrate") rows → IsSome (first_of (codes "file") rows)
+  has_first called = ap is_some called.holds.0
+
+  pub has_second : CalledWithTwo words (codes "migrate") rows → IsSome (first_of (codes "new") rows)
+  has_second called = ap is_some called.holds.1
 
 -- what `get_one` reads of an option's text
 pub number_is : {E : Type 0} (G : Text → Result ℕ E → Type 0) → ((t : Text) (r : Result ℕ E) → G t r → ParsesUnsigned 64 10 t r)

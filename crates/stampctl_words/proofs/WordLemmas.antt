@@ -14,8 +14,9 @@ use Rattle.clap.specs.declared.parser.matches.SubCommand.{SubCommand}
 use Rattle.clap.proofs.OnLiterals.{clap_on_literals}
 use Rattle.clap.proofs.WalkLemmas.{walk_stopped}
 use Rattle.stampctl_words.specs.CommandLine.{program}
-use Rattle.stampctl_words.specs.Words.{Adds, Arguments, Call, Draws, Dumps, IsFile, MayBeFile, Names, NoSubcommand, OnlyDashes, Run, Runs, Traces, no_arguments}
+use Rattle.stampctl_words.specs.Words.{Adds, AreFiles, Arguments, Call, Draws, Dumps, IsFile, MayBeFile, Migrates, Names, NoSubcommand, OnlyDashes, Run, Runs, Traces, no_arguments}
 use Rattle.stampctl_words.proofs.NamedLemmas.{end_rows, reads}
+use Rattle.stampctl_words.proofs.PairLemmas.{IsPair, pair_leaf, pair_reads, pair_rules, pair_taken}
 use Rattle.stampctl_words.proofs.RowLemmas.{Holds}
 use Rattle.stampctl_words.proofs.RuleLemmas.{leaf, refuses_long, refuses_short, rules}
 use Rattle.stampctl_words.proofs.SpellingLemmas.{same_in_some, same_word}
@@ -42,9 +43,9 @@ unfolding defaults_fault
 no_default_faults [] none rows = refl
 no_default_faults (a ∷ rest) none rows = nil_or (default_fault rows a) _ (no_default_fault rows a none.0) (no_default_faults rest none.1 (with_default rows a))
 
-no_defaults_fault : (needs_file has_options : Bool) (rows : List Row) → defaults_fault rows (rules needs_file has_options) ≡ []
-no_defaults_fault needs_file false rows = no_default_faults (rules needs_file false) (refl, (refl, tt)) rows
-no_defaults_fault needs_file true rows = no_default_faults (rules needs_file true) (refl, (refl, (refl, (refl, tt)))) rows
+rules_have_no_defaults : (needs_file has_options : Bool) → HaveNoDefaults (rules needs_file has_options)
+rules_have_no_defaults needs_file false = (refl, (refl, tt))
+rules_have_no_defaults needs_file true = (refl, (refl, (refl, (refl, tt))))
 
 -- what is refused where a file is needed, by whether one was given
 abbrev file_check : Bool → Kinds
@@ -74,42 +75,48 @@ abbrev start : Walk
 start = state [] None idle 1 false
 
 -- one level of a parse: its words, and then what is needed
-module _ (needs_file has_options : Bool) (name : Text) (words : List Text) where
+module _ (s : Shape) (words : List Text) where
   abbrev end : Held
-  end = (fold (walked (rules needs_file has_options) []) start words).held
+  end = (fold (walked s.rules []) start words).held
 
   abbrev walk_kinds : Kinds
-  walk_kinds = walk_fault (leaf needs_file has_options name) [] start words
+  walk_kinds = walk_fault s [] start words
 
   abbrev settle_kinds : Kinds
-  settle_kinds = settle_fault (rules needs_file has_options) false end
+  settle_kinds = settle_fault s.rules s.args_override_self end
 
   abbrev default_kinds : Kinds
-  default_kinds = defaults_fault (settled (rules needs_file has_options) end).rows (rules needs_file has_options)
+  default_kinds = defaults_fault (settled s.rules end).rows s.rules
 
   abbrev last_kinds : Kinds
-  last_kinds = check_fault (leaf needs_file has_options name) (end_rows needs_file has_options name start words) false
+  last_kinds = check_fault s (finished s.rules end) false
 
-  level_reads : level_fault (leaf needs_file has_options name) [] nothing_held words false [] ≡ []
-      → (faults (leaf needs_file has_options name) start words ≡ []) × (last_kinds ≡ [])
+  level_reads : level_fault s [] nothing_held words false [] ≡ [] → (faults s start words ≡ []) × (last_kinds ≡ [])
   level_reads e =
       let walks = or_nil walk_kinds (or_else settle_kinds (or_else default_kinds last_kinds)) e in
       let settles = or_nil settle_kinds (or_else default_kinds last_kinds) walks.1 in
       (nil_or walk_kinds settle_kinds walks.0 settles.0, (or_nil default_kinds last_kinds settles.1).1)
 
-  level_taken : faults (leaf needs_file has_options name) start words ≡ [] → last_kinds ≡ [] → level_fault (leaf needs_file has_options name) [] nothing_held words false [] ≡ []
-  level_taken e last =
+  level_taken : HaveNoDefaults s.rules → faults s start words ≡ [] → last_kinds ≡ [] → level_fault s [] nothing_held words false [] ≡ []
+  level_taken none e last =
       let walks = or_nil walk_kinds settle_kinds e in
       nil_or walk_kinds (or_else settle_kinds (or_else default_kinds last_kinds)) walks.0
       (nil_or settle_kinds (or_else default_kinds last_kinds) walks.1
-      (nil_or default_kinds last_kinds (no_defaults_fault needs_file has_options (settled (rules needs_file has_options) end).rows) last))
+      (nil_or default_kinds last_kinds (no_default_faults s.rules none (settled s.rules end).rows) last))
 
-  -- words that add arguments, with a file where one is needed
-  adds_taken : (a : Arguments) → Adds IsFile has_options words no_arguments a → (needs_file ≡ true → is_some a.file ≡ true)
-      → level_fault (leaf needs_file has_options name) [] nothing_held words false [] ≡ []
-  adds_taken a adds has =
-      let taken = takes_all needs_file has_options name words a adds in
-      level_taken taken.0 (no_check_fault needs_file has_options name (end_rows needs_file has_options name start words) (λ needs. taken.1.given ∙ has needs))
+-- words that add arguments, with a file where one is needed
+adds_taken : (needs_file has_options : Bool) (name : Text) (words : List Text) (a : Arguments) → Adds IsFile has_options words no_arguments a → (needs_file ≡ true → is_some a.file ≡ true)
+    → level_fault (leaf needs_file has_options name) [] nothing_held words false [] ≡ []
+adds_taken needs_file has_options name words a adds has =
+    let taken = takes_all needs_file has_options name words a adds in
+    level_taken (leaf needs_file has_options name) words (rules_have_no_defaults needs_file has_options) taken.0
+    (no_check_fault needs_file has_options name (end_rows needs_file has_options name start words) (λ needs. taken.1.given ∙ has needs))
+
+-- words that are two files
+pair_level_taken : (words : List Text) (file new : Text) → AreFiles IsFile words (file ∷ new ∷ []) → level_fault pair_leaf [] nothing_held words false [] ≡ []
+pair_level_taken words file new are =
+    let taken = pair_taken words file new are in
+    level_taken pair_leaf words (refl, (refl, (refl, tt))) taken.0 taken.1
 
 -- ---- the program's words
 
@@ -137,10 +144,23 @@ pub record Called (words : List Text) (name : Text) (rows : List Row) : Type 0 w
   pub holds : Holds rows arguments
   pub has_file : needs_file ≡ true → is_some arguments.file ≡ true
 
+-- the words name the subcommand with two files, and the rows hold those
+pub record CalledWithTwo (words : List Text) (name : Text) (rows : List Row) : Type 0 where
+  pub named : name ≡ codes "migrate"
+  pub rest : List Text
+  pub is : words ≡ name ∷ rest
+  pub file : Text
+  pub new : Text
+  pub are : AreFiles MayBeFile rest (file ∷ new ∷ [])
+  pub holds : IsPair rows file new
+
+abbrev pub IsCalled : List Text → Text → List Row → Type 0
+IsCalled words name rows = Called words name rows ⊎ CalledWithTwo words name rows
+
 -- what the words ask for, where the parser enters a subcommand or none
 abbrev Reads : List Text → Option (Text × List Row) → Type 0
 Reads words None = Names MayBeFile words (Run None)
-Reads words (Some p) = Called words p.0 p.1
+Reads words (Some p) = IsCalled words p.0 p.1
 
 abbrev read_from : List Text → Option (Text × List Row)
 read_from words = entered made (stop_after top.rules (names_of made) words)
@@ -155,11 +175,11 @@ no_top_check true = refl
 no_top_check false = refl
 
 -- a subcommand's name, and the words after it
-module _ (needs_file has_options : Bool) (name : Text) (rest : List Text)
+module _ (s : Shape) (name : Text) (rest : List Text)
     (met : subcommand_met (names_of made) idle name ≡ Some name)
     (turn : turn_fault top (names_of made) start name ≡ [])
-    (found : entered made (Some (name, rest)) ≡ Some (name, rows_after (rules needs_file has_options) [] rest))
-    (below : entered_fault made (Some (name, rest)) ≡ level_fault (leaf needs_file has_options name) [] nothing_held rest false []) where
+    (found : entered made (Some (name, rest)) ≡ Some (name, rows_after s.rules [] rest))
+    (below : entered_fault made (Some (name, rest)) ≡ level_fault s [] nothing_held rest false []) where
   first_walked : walked top.rules (names_of made) start name ≡ record start { stopped = Some (name, []) }
   unfolding walked
   first_walked =
@@ -173,25 +193,13 @@ module _ (needs_file has_options : Bool) (name : Text) (rest : List Text)
   stops : stop_after top.rules (names_of made) (name ∷ rest) ≡ Some (name, rest)
   stops = ap (λ (w : Walk). w.stopped) ends
 
-  name_reads : IsNamed needs_file has_options name → built_fault made nothing_held (name ∷ rest) ≡ [] → Reads (name ∷ rest) (read_from (name ∷ rest))
-  name_reads is e =
+  name_reads : (level_fault s [] nothing_held rest false [] ≡ [] → IsCalled (name ∷ rest) name (rows_after s.rules [] rest))
+      → built_fault made nothing_held (name ∷ rest) ≡ [] → Reads (name ∷ rest) (read_from (name ∷ rest))
+  name_reads called e =
       let inner = or_nil (entered_fault made (stop_after top.rules (names_of made) (name ∷ rest))) _ (or_nil (walk_fault top (names_of made) start (name ∷ rest)) _ e).1 in
-      let level = level_reads needs_file has_options name rest (sym below ∙ ap (entered_fault made) (sym stops) ∙ inner.0) in
-      let read = reads needs_file has_options name rest level.0 in
-      subst (Reads (name ∷ rest)) (sym (ap (entered made) stops ∙ found))
-      (record {
-        needs_file = needs_file;
-        has_options = has_options;
-        named = is;
-        rest = rest;
-        is = refl;
-        arguments = read.0;
-        adds = read.1;
-        holds = read.2;
-        has_file = λ needs. sym read.2.given ∙ given_file needs_file has_options name (end_rows needs_file has_options name start rest) level.1 needs;
-      })
+      subst (Reads (name ∷ rest)) (sym (ap (entered made) stops ∙ found)) (called (sym below ∙ ap (entered_fault made) (sym stops) ∙ inner.0))
 
-  name_taken : level_fault (leaf needs_file has_options name) [] nothing_held rest false [] ≡ [] → built_fault made nothing_held (name ∷ rest) ≡ []
+  name_taken : level_fault s [] nothing_held rest false [] ≡ [] → built_fault made nothing_held (name ∷ rest) ≡ []
   unfolding walk_fault defaults_fault
   name_taken e =
       let passed : walk_fault top (names_of made) start (name ∷ rest) ≡ [] =
@@ -200,6 +208,39 @@ module _ (needs_file has_options : Bool) (name : Text) (rest : List Text)
       let last = subst (λ (w : Walk). or_else (settle_fault top.rules top.args_override_self w.held) (or_else (defaults_fault (settled top.rules w.held).rows top.rules) (check_fault top (finished top.rules w.held) (is_some (entered made w.stopped)))) ≡ [])
       (sym ends) (no_top_check (is_some (entered made (Some (name, rest))))) in
       nil_or _ _ passed (nil_or _ _ inner last)
+
+-- a subcommand with a file at most
+one_called : (needs_file has_options : Bool) (name : Text) (rest : List Text) → IsNamed needs_file has_options name → level_fault (leaf needs_file has_options name) [] nothing_held rest false [] ≡ []
+    → IsCalled (name ∷ rest) name (rows_after (rules needs_file has_options) [] rest)
+one_called needs_file has_options name rest is e =
+    let level = level_reads (leaf needs_file has_options name) rest e in
+    let read = reads needs_file has_options name rest level.0 in
+    inl (record {
+      needs_file = needs_file;
+      has_options = has_options;
+      named = is;
+      rest = rest;
+      is = refl;
+      arguments = read.0;
+      adds = read.1;
+      holds = read.2;
+      has_file = λ needs. sym read.2.given ∙ given_file needs_file has_options name (end_rows needs_file has_options name start rest) level.1 needs;
+    })
+
+-- the subcommand with two
+two_called : (rest : List Text) → level_fault pair_leaf [] nothing_held rest false [] ≡ [] → IsCalled (codes "migrate" ∷ rest) (codes "migrate") (rows_after pair_rules [] rest)
+two_called rest e =
+    let level = level_reads pair_leaf rest e in
+    let read = pair_reads rest level.0 level.1 in
+    inr (record {
+      named = refl;
+      rest = rest;
+      is = refl;
+      file = read.0;
+      new = read.1;
+      are = read.2;
+      holds = read.3;
+    })
 
 -- a first word that is no subcommand: `--` alone
 unnamed : (word : Text) (rest : List Text) → subcommand_met (names_of made) idle word ≡ None
@@ -234,17 +275,21 @@ pub takes_named : (words : List Text) → built_fault made nothing_held words �
 takes_named [] e = NoSubcommand
 takes_named (word ∷ rest) e = elim (cases_Bool (bytes_eq (codes "run") word)) [
   | inl same ↦ subst (λ (w : Text). built_fault made nothing_held (w ∷ rest) ≡ [] → Reads (w ∷ rest) (read_from (w ∷ rest))) (same_word (codes "run") word same)
-      (name_reads false false (codes "run") rest refl refl refl refl (inl refl)) e
+      (name_reads (leaf false false (codes "run")) (codes "run") rest refl refl refl refl (one_called false false (codes "run") rest (inl refl))) e
   | inr no_run ↦ elim (cases_Bool (bytes_eq (codes "trace") word)) [
     | inl same ↦ subst (λ (w : Text). built_fault made nothing_held (w ∷ rest) ≡ [] → Reads (w ∷ rest) (read_from (w ∷ rest))) (same_word (codes "trace") word same)
-        (name_reads false false (codes "trace") rest refl refl refl refl (inr refl)) e
+        (name_reads (leaf false false (codes "trace")) (codes "trace") rest refl refl refl refl (one_called false false (codes "trace") rest (inr refl))) e
     | inr no_trace ↦ elim (cases_Bool (bytes_eq (codes "draw") word)) [
       | inl same ↦ subst (λ (w : Text). built_fault made nothing_held (w ∷ rest) ≡ [] → Reads (w ∷ rest) (read_from (w ∷ rest))) (same_word (codes "draw") word same)
-          (name_reads false true (codes "draw") rest refl refl refl refl refl) e
+          (name_reads (leaf false true (codes "draw")) (codes "draw") rest refl refl refl refl (one_called false true (codes "draw") rest refl)) e
       | inr no_draw ↦ elim (cases_Bool (bytes_eq (codes "dump") word)) [
         | inl same ↦ subst (λ (w : Text). built_fault made nothing_held (w ∷ rest) ≡ [] → Reads (w ∷ rest) (read_from (w ∷ rest))) (same_word (codes "dump") word same)
-            (name_reads true false (codes "dump") rest refl refl refl refl refl) e
-        | inr no_dump ↦ unnamed word rest (rw (no_run, no_trace, no_draw, no_dump) refl) e
+            (name_reads (leaf true false (codes "dump")) (codes "dump") rest refl refl refl refl (one_called true false (codes "dump") rest refl)) e
+        | inr no_dump ↦ elim (cases_Bool (bytes_eq (codes "migrate") word)) [
+          | inl same ↦ subst (λ (w : Text). built_fault made nothing_held (w ∷ rest) ≡ [] → Reads (w ∷ rest) (read_from (w ∷ rest))) (same_word (codes "migrate") word same)
+              (name_reads pair_leaf (codes "migrate") rest refl refl refl refl (two_called rest)) e
+          | inr no_migrate ↦ unnamed word rest (rw (no_run, no_trace, no_draw, no_dump, no_migrate) refl) e
+        ]
       ]
     ]
   ]
@@ -258,11 +303,12 @@ pub takes_call : (words : List Text) (call : Call) → Names IsFile words call �
 unfolding clap_on_literals
 takes_call words call NoSubcommand = refl
 takes_call words call OnlyDashes = refl
-takes_call words call (Runs rest a adds) = name_taken false false (codes "run") rest refl refl refl refl (adds_taken false false (codes "run") rest a adds needs_none)
-takes_call words call (Traces rest a adds) = name_taken false false (codes "trace") rest refl refl refl refl (adds_taken false false (codes "trace") rest a adds needs_none)
-takes_call words call (Draws rest a adds) = name_taken false true (codes "draw") rest refl refl refl refl (adds_taken false true (codes "draw") rest a adds needs_none)
+takes_call words call (Runs rest a adds) = name_taken (leaf false false (codes "run")) (codes "run") rest refl refl refl refl (adds_taken false false (codes "run") rest a adds needs_none)
+takes_call words call (Traces rest a adds) = name_taken (leaf false false (codes "trace")) (codes "trace") rest refl refl refl refl (adds_taken false false (codes "trace") rest a adds needs_none)
+takes_call words call (Draws rest a adds) = name_taken (leaf false true (codes "draw")) (codes "draw") rest refl refl refl refl (adds_taken false true (codes "draw") rest a adds needs_none)
 takes_call words call (Dumps rest a file adds has) =
-    name_taken true false (codes "dump") rest refl refl refl refl (adds_taken true false (codes "dump") rest a adds (λ needs. ap is_some has))
+    name_taken (leaf true false (codes "dump")) (codes "dump") rest refl refl refl refl (adds_taken true false (codes "dump") rest a adds (λ needs. ap is_some has))
+takes_call words call (Migrates rest file new are) = name_taken pair_leaf (codes "migrate") rest refl refl refl refl (pair_level_taken rest file new are)
 
 -- ---- the matches of a parse
 
@@ -287,6 +333,6 @@ no_task words m none same met =
 -- a parse that met one
 pub one_task : (words : List Text) (m inner : ArgMatches) (name : Text) → fault_of program words ≡ [] → subcommand_rows_of m ≡ subcommand_of program words
     → Some name ≡ subcommand_name_of m → Some (rows_of (found_of inner)) ≡ option_map (λ p. p.1) (subcommand_rows_of m)
-    → Called (drop 1 words) name (rows_of (found_of inner))
+    → IsCalled (drop 1 words) name (rows_of (found_of inner))
 one_task words m inner name none same called rows =
     subst (Reads (drop 1 words)) (sym same ∙ entered_some (out-ArgMatches m).subcommand name (rows_of (found_of inner)) called rows) (takes_named (drop 1 words) none)

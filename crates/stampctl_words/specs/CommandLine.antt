@@ -30,10 +30,18 @@ drawing_shape = record (new_shape (codes "draw")) {
 abbrev pub dumping_shape : Shape
 dumping_shape = record (new_shape (codes "dump")) { rules = needed_file_rule ∷ [] }
 
+-- the name of a file that is to be made
+abbrev pub new_file_rule : Rule
+new_file_rule = record (new_rule (codes "new")) { value_names = 1; required = true }
+
+abbrev pub migrating_shape : Shape
+migrating_shape = record (new_shape (codes "migrate")) { rules = needed_file_rule ∷ new_file_rule ∷ [] }
+
 abbrev pub program : App
 program =
     let top = on_top (λ s. record s { disable_help_subcommand = true }) (new_app (codes "stampctl")) in
     let run = with_subcommand top (file_shape (codes "run")) in
     let trace = with_subcommand run (file_shape (codes "trace")) in
     let draw = with_subcommand trace drawing_shape in
-    with_subcommand draw dumping_shape
+    let dump = with_subcommand draw dumping_shape in
+    with_subcommand dump migrating_shape

@@ -24,12 +24,14 @@ pub data Call : Type 0 where
   Trace : Option (List ℕ) → Call
   Draw : Arguments → Call
   Dump : List ℕ → Call
+  Migrate : (file new : List ℕ) → Call
 
 abbrev pub call_of : Task → Call
 call_of (task.Run file) = Run (option_map (λ f. f.now) file)
 call_of (task.Trace file) = Trace (option_map (λ f. f.now) file)
 call_of (task.Draw file from to) = Draw (record { file = option_map (λ f. f.now) file; from = from; to = to })
 call_of (task.Dump file) = Dump file.now
+call_of (task.Migrate file new) = Migrate file.now new.now
 
 -- a word that may be a file: one that begins with two hyphens is an option
 abbrev pub MayBeFile : List ℕ → Type 0
@@ -59,7 +61,14 @@ pub data Adds (Files : List ℕ → Type 0) (has_options : Bool) : List (List �
   Dashes : (a : Arguments) → Adds Files has_options (codes "--" ∷ []) a a
   DashesFile : (a : Arguments) (word : List ℕ) (first : a.file ≡ None) → Adds Files has_options (codes "--" ∷ word ∷ []) a (record a { file = Some word })
 
--- the words name a subcommand with its arguments, and a file that is dumped may not be left out; where they name none, the script on standard input is run
+-- The words are these files, in this order, each of them one of `Files`. After `--` stand files, whatever they begin with.
+pub data AreFiles (Files : List ℕ → Type 0) : (words files : List (List ℕ)) → Type 0 where
+  NoMoreFiles : AreFiles Files [] []
+  OneMoreFile : (word : List ℕ) (words files : List (List ℕ)) (is : Files word) (more : AreFiles Files words files) → AreFiles Files (word ∷ words) (word ∷ files)
+  FilesAfterDashes : (files : List (List ℕ)) → AreFiles Files (codes "--" ∷ files) files
+
+-- the words name a subcommand with its arguments, and a file that is dumped may not be left out, nor the two of a migration; where they name none,
+-- the script on standard input is run
 pub data Names (Files : List ℕ → Type 0) : List (List ℕ) → Call → Type 0 where
   NoSubcommand : Names Files [] (Run None)
   OnlyDashes : Names Files (codes "--" ∷ []) (Run None)
@@ -67,3 +76,4 @@ pub data Names (Files : List ℕ → Type 0) : List (List ℕ) → Call → Type
   Traces : (words : List (List ℕ)) (a : Arguments) (by : Adds Files false words no_arguments a) → Names Files (codes "trace" ∷ words) (Trace a.file)
   Draws : (words : List (List ℕ)) (a : Arguments) (by : Adds Files true words no_arguments a) → Names Files (codes "draw" ∷ words) (Draw a)
   Dumps : (words : List (List ℕ)) (a : Arguments) (file : List ℕ) (by : Adds Files false words no_arguments a) (has : a.file ≡ Some file) → Names Files (codes "dump" ∷ words) (Dump file)
+  Migrates : (words : List (List ℕ)) (file new : List ℕ) (are : AreFiles Files words (file ∷ new ∷ [])) → Names Files (codes "migrate" ∷ words) (Migrate file new)

@@ -1,12 +1,12 @@
 //! The words of the command line.
-ghost use Rattle.std.specs.Prelude.{◌≡◌, IfErr, IfOk, drop, false};
-ghost use Rattle.clap.specs.Words.{app_of, kind_of, rule_of, shape_of};
+ghost use Rattle.std.specs.Prelude.{◌≡◌, IfErr, IfOk, IsSome, Some, drop, false};
+ghost use Rattle.clap.specs.Words.{app_of, first_value, found_of, kind_of, rule_of, shape_of};
 ghost use Rattle.clap.specs.declared.builder.command.Command.TheViews.{out-Command};
-ghost use Rattle.stampctl_words.specs.CommandLine.{drawing_shape, dumping_shape, event_rule, file_shape, program};
+ghost use Rattle.stampctl_words.specs.CommandLine.{drawing_shape, dumping_shape, event_rule, file_shape, migrating_shape, program};
 ghost use Rattle.stampctl_words.specs.Words.{Call, IsFile, MayBeFile, Names, call_of, texts};
 
 use clap::error::ErrorKind;
-use clap::{Arg, value_parser};
+use clap::{Arg, ArgMatches, value_parser};
 use std::alloc::{AllocError, Global};
 use thiserror::Error as ThisError;
 
@@ -27,13 +27,18 @@ pub enum Task<'a> {
     },
     /// Prints the records of the record file with this name.
     Dump(&'a str),
+    /// Makes a record file of version 2 with the records of another.
+    Migrate {
+        file: &'a str,
+        new: &'a str,
+    },
 }
 
 /// What the help ends with.
 const AFTER_HELP: &str = "\
 Without a command, the script on standard input is run.
 The lines of a script and of a dump are those of docs/FORMATS.md, and crates/tests_rows/data has some scripts.
-Status 0: the script ran to its end, or the file was dumped. 1: it was refused, as the last line says. 2: wrong words.";
+Status 0: the script ran to its end, or the file was dumped or migrated. 1: it was refused, as the last line says. 2: wrong words.";
 
 /// A subcommand with one file, which may be left out.
 fn with_file<'a>(
@@ -97,6 +102,25 @@ fn dumping<'a>(alloc: Global) -> Result<clap::Command<'a>, AllocError>
         .arg(file)
 }
 
+/// The subcommand that migrates a record file.
+fn migrating<'a>(alloc: Global) -> Result<clap::Command<'a>, AllocError>
+    ensures shape { IfOk result (λ c. shape_of c ≡ migrating_shape) }
+    ensures local { IfOk result (λ c. (out-Command c).has_globals ≡ false) }
+{
+    let file = Arg::new(alloc, "file")
+        .value_name("FILE")
+        .required(true)
+        .help("The record file of an actor, which is only read");
+    let new = Arg::new(alloc, "new")
+        .value_name("NEW")
+        .required(true)
+        .help("The file that is made, which must not be there yet");
+    clap::Command::new(alloc, "migrate")
+        .about("Makes a record file of version 2 with the records of another")
+        .arg(file)?
+        .arg(new)
+}
+
 /// The program's command line.
 fn command_line<'a>(alloc: Global) -> Result<clap::Command<'a>, AllocError>
     ensures { IfOk result (λ c. app_of c ≡ program) }
@@ -109,6 +133,7 @@ fn command_line<'a>(alloc: Global) -> Result<clap::Command<'a>, AllocError>
     )?;
     let draw = drawing(alloc)?;
     let dump = dumping(alloc)?;
+    let migrate = migrating(alloc)?;
     clap::Command::new(alloc, "stampctl")
         .about("Runs a script, by default the one on standard input")
         .after_help(AFTER_HELP)
@@ -116,7 +141,8 @@ fn command_line<'a>(alloc: Global) -> Result<clap::Command<'a>, AllocError>
         .subcommand(run)?
         .subcommand(trace)?
         .subcommand(draw)?
-        .subcommand(dump)
+        .subcommand(dump)?
+        .subcommand(migrate)
 }
 
 /// Why the words were not read.
@@ -153,6 +179,17 @@ impl From<clap::Error> for CommandError {
     }
 }
 
+/// The value of an argument that may not be left out.
+fn needed<'a>(given: &ArgMatches<'a>, id: &str) -> &'a str
+    requires { IsSome (first_value (found_of given.now) id.now) }
+    ensures { Some result.now ≡ first_value (found_of given.now) id.now }
+{
+    match given.get_str(id) {
+        Some(value) => value,
+        None => unreachable!(),
+    }
+}
+
 /// Reads the words of a command line, of which the first is the program's name.
 pub fn command<'a>(alloc: Global, words: &'a [String]) -> Result<Task<'a>, CommandError>
     // The task is the one that the words name.
@@ -170,10 +207,11 @@ pub fn command<'a>(alloc: Global, words: &'a [String]) -> Result<Task<'a>, Comma
             from: given.get_one("from"),
             to: given.get_one("to"),
         }),
-        Some(("dump", given)) => match given.get_str("file") {
-            Some(file) => Ok(Task::Dump(file)),
-            None => unreachable!(),
-        },
+        Some(("dump", given)) => Ok(Task::Dump(needed(given, "file"))),
+        Some(("migrate", given)) => Ok(Task::Migrate {
+            file: needed(given, "file"),
+            new: needed(given, "new"),
+        }),
         Some((_run, given)) => Ok(Task::Run(given.get_str("file"))),
     }
 }

@@ -33,10 +33,10 @@ type Case = (
 const MAKE: &[u8] = b"\x01\0\0\0\0\0\0\0\x01\0\0\0\0\0\0\0\x01\0\0\x10\0\x01\x02\x03";
 
 /// Of the manager: it has four nodes.
-const FIRST: &[u8] = b"\x07\x01\x04\0\0\x10\0";
+pub const FIRST: &[u8] = b"\x07\x01\x04\0\0\x10\0";
 
 /// Of the map: range 1 goes to server 2, up to moment 50.
-const ASSIGN: &[u8] = b"\x07\x10\0\0\0\0\0\0\0\x01\x02\0\0\0\0\0\0\0\x32";
+pub const ASSIGN: &[u8] = b"\x07\x10\0\0\0\0\0\0\0\x01\x02\0\0\0\0\0\0\0\x32";
 
 /// Of none.
 const UNKNOWN: &[u8] = b"\x07\x63\0\0\0\0\0\0\0\x01";
@@ -78,7 +78,7 @@ fn fault_of(alloc: Global, who: Who, disk: MemDisk) -> Option<(bool, usize)> {
 }
 
 /// Whether an actor starts from a disk, if that can be made. Where it does not, its bytes are damaged, and they are all handed back.
-fn starts(alloc: Global, who: Who, disk: Result<MemDisk, DiskFault>) -> Option<bool> {
+pub fn starts(alloc: Global, who: Who, disk: Result<MemDisk, DiskFault>) -> Option<bool> {
     let Ok(disk) = disk else {
         return None;
     };

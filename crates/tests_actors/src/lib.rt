@@ -29,4 +29,6 @@ mod seen_bytes;
 #[cfg(test)]
 mod senders;
 #[cfg(test)]
+mod versions;
+#[cfg(test)]
 mod written_disks;

@@ -106,6 +106,11 @@ fn packet_of(alloc: Global, from: Sender, ask: Ask) -> Packet {
     }
 }
 
+/// A user's packet to create a stream of row data of range 0, with fence 0.
+pub fn create_of(alloc: Global) -> Packet {
+    packet_of(alloc, Sender::User, Ask::Create(0))
+}
+
 /// Why a decision is refused, if it is. One that has stopped is not asked.
 fn undecided(alloc: Global, manager: &mut Manager<MemDisk>, extent: u64) -> Option<ManagerFault> {
     if manager.is_stopped() {

@@ -38,7 +38,16 @@ pub fn disk_with(alloc: Global, bytes: &[u8]) -> Result<MemDisk, DiskFault> {
 
 /// The disk of a file of version 1 with records of these bodies.
 pub fn disk_of(alloc: Global, records: &[&[u8]]) -> Result<MemDisk, DiskFault> {
-    let mut file = b"XRF1".to_vec(alloc)?;
+    disk_of_letters(alloc, b"XRF1", records)
+}
+
+/// The disk of a file that begins with these letters, with records of these bodies.
+pub fn disk_of_letters(
+    alloc: Global,
+    letters: &[u8],
+    records: &[&[u8]],
+) -> Result<MemDisk, DiskFault> {
+    let mut file = letters.to_vec(alloc)?;
     for record in records {
         add(&mut file, record)?;
     }

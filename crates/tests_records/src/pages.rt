@@ -10,7 +10,7 @@ use crate::groups::has_blocks;
 use block_types::BlockFault;
 use bytes::Bytes;
 use checkpoint_format::{Index, Page, decode, entries_of, find_in, is_page, write_pages};
-use memtable::{Cell, Place};
+use memtable::{Cell, Cells, Key, Place};
 use std::alloc::Global;
 use std::collections::BTreeMap;
 use std::test::Fail;
@@ -80,19 +80,17 @@ const INDEXES: &[(&[u8], Result<bool, BlockFault>)] = &[
     ),
 ];
 
-type Table = BTreeMap<Bytes, Cell>;
-
-fn put(table: &mut Table, key: Bytes, cell: Cell) -> Result<(), Fail>
+fn put(table: &mut Cells, key: Bytes, cell: Cell) -> Result<(), Fail>
     requires old { AllByRecursion IsEntryPair table.old.entries }
     requires key { IsKey key }
     requires cell { IsCell cell }
     ensures { OnOk result (AllByRecursion IsEntryPair table.new.entries) }
 {
-    table.insert(key, cell)?;
+    table.insert(Key::of(key), cell)?;
     Ok(())
 }
 
-fn kinds(alloc: Global) -> Result<Table, Fail>
+fn kinds(alloc: Global) -> Result<Cells, Fail>
     ensures { IfOk result (λ table. AllByRecursion IsEntryPair table.entries) }
 {
     let mut table = BTreeMap::new(alloc);
@@ -117,7 +115,7 @@ fn key_of(number: u16) -> [u8; 2] {
 }
 
 /// A thousand keys, each with a value of 100 bytes.
-fn thousand(alloc: Global) -> Result<Table, Fail>
+fn thousand(alloc: Global) -> Result<Cells, Fail>
     ensures { IfOk result (λ table. AllByRecursion IsEntryPair table.entries) }
 {
     let mut table = BTreeMap::new(alloc);

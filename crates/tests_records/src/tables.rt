@@ -2,7 +2,7 @@
 ghost use Rattle.memtable.specs.Cell.{IsCell};
 
 use bytes::Bytes;
-use memtable::{Cell, MemTable};
+use memtable::{Cell, Key, MemTable};
 use std::alloc::Global;
 use std::test::Fail;
 
@@ -61,7 +61,7 @@ fn takes(alloc: Global, table: &mut MemTable, step: &Step) -> Result<bool, Fail>
 
 /// The length of the value at `a`.
 fn length_at(table: &MemTable) -> Option<usize> {
-    match table.get(&Bytes::from_static(b"a")) {
+    match table.get(&Key::of(Bytes::from_static(b"a"))) {
         Some(Cell::Inline(value)) => Some(value.len()),
         _ => None,
     }

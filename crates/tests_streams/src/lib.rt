@@ -27,6 +27,10 @@ mod refusals;
 #[cfg(test)]
 mod replicas;
 #[cfg(test)]
+mod shared_pieces;
+#[cfg(test)]
 mod spellings;
 #[cfg(test)]
 mod trimmed_logs;
+#[cfg(test)]
+mod versions;

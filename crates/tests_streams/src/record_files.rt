@@ -3,7 +3,7 @@ ghost use Rattle.std.specs.Prelude.{◌≡◌, false, IfOk};
 ghost use Rattle.blocks.specs.Record.{Fits};
 ghost use Rattle.disk.specs.Appends.{Appends};
 ghost use Rattle.block_types.specs.declared.record.Version.{Version};
-ghost use Rattle.block_types.specs.declared.record.Version.TheVariants.{V1};
+ghost use Rattle.block_types.specs.declared.record.Version.TheVariants.{V2};
 
 use crate::groups::group_of;
 use block_types::{BlockFault, Nodes, Record};
@@ -14,13 +14,24 @@ use std::test::Fail;
 
 // Make(1, 1, 4096; 1, 2, 3) and Append(1, 0, `abc` `de`) in version 1: the header, two open gates with their records,
 // and a closed gate.
-const TWO_RECORDS: [u8; 66] = *b"XRF1\
+const OLD_RECORDS: [u8; 66] = *b"XRF1\
     \x01\0\0\0\x18\x01\0\0\0\0\0\0\0\x01\0\0\0\0\0\0\0\x01\0\0\x10\0\x01\x02\x03\
     \x01\0\0\0\x1b\x02\0\0\0\0\0\0\0\x01\0\0\0\0\x02\0\0\0\x03abc\0\0\0\x02de\
     \0";
 
-fn make() -> Record
-    ensures first { Fits V1 result }
+// The same in version 2: after each block stands its SHA-256 digest.
+const TWO_RECORDS: [u8; 130] = *b"XRF2\
+    \x01\0\0\0\x18\x01\0\0\0\0\0\0\0\x01\0\0\0\0\0\0\0\x01\0\0\x10\0\x01\x02\x03\
+    \x01\0\0\0\x5b\x02\0\0\0\0\0\0\0\x01\0\0\0\0\x02\0\0\0\x03abc\
+    \xba\x78\x16\xbf\x8f\x01\xcf\xea\x41\x41\x40\xde\x5d\xae\x22\x23\
+    \xb0\x03\x61\xa3\x96\x17\x7a\x9c\xb4\x10\xff\x61\xf2\x00\x15\xad\
+    \0\0\0\x02de\
+    \x95\x9a\x45\xd4\x4e\x6f\xcf\x58\x36\x1e\xd0\x04\x68\x15\x56\xfe\
+    \x50\x12\x9f\x21\x09\xe8\x17\xde\xc0\x98\xc0\x0c\x9e\x5d\x25\x78\
+    \0";
+
+pub(crate) fn make() -> Record
+    ensures first { Fits V2 result }
     ensures any { (v : Version) → Fits v result }
 {
     Record::Make {
@@ -36,7 +47,7 @@ fn make() -> Record
 }
 
 fn abc_de(alloc: Global) -> Result<Record, Fail>
-    ensures { IfOk result (Fits V1) }
+    ensures { IfOk result (Fits V2) }
 {
     let group = group_of(alloc, &[b"abc", b"de"])?;
     // Its clause says that the group has at most 4,194,304 bytes.
@@ -49,7 +60,11 @@ fn abc_de(alloc: Global) -> Result<Record, Fail>
 }
 
 // Records, files and disks are handed over whole: a local that lives on is dropped at each exit, and each costs the proof.
-fn append<D: Disk>(alloc: Global, file: &mut RecordFile<D>, added: Record) -> Result<(), DiskFault>
+pub(crate) fn append<D: Disk>(
+    alloc: Global,
+    file: &mut RecordFile<D>,
+    added: Record,
+) -> Result<(), DiskFault>
     requires running { file.old.stopped ≡ false }
     requires fits { Fits file.old.version added }
     ensures { Appends D.state file.old file.new added result }
@@ -59,7 +74,7 @@ fn append<D: Disk>(alloc: Global, file: &mut RecordFile<D>, added: Record) -> Re
 
 fn append_two<D: Disk>(alloc: Global, file: &mut RecordFile<D>) -> Result<(), Fail>
     requires running { file.old.stopped ≡ false }
-    requires version { file.old.version ≡ V1 }
+    requires version { file.old.version ≡ V2 }
 {
     append(alloc, file, make())?;
     Ok(append(alloc, file, abc_de(alloc)?)?)
@@ -67,13 +82,13 @@ fn append_two<D: Disk>(alloc: Global, file: &mut RecordFile<D>) -> Result<(), Fa
 
 fn empty(alloc: Global) -> Result<RecordFile<MemDisk>, Fail>
     ensures running { IfOk result (λ file. file.stopped ≡ false) }
-    ensures version { IfOk result (λ file. file.version ≡ V1) }
+    ensures version { IfOk result (λ file. file.version ≡ V2) }
 {
     let file = RecordFile::format(MemDisk::new(alloc));
     Ok(file.ok().ok_or("formatted")?)
 }
 
-fn reopened<D: Disk + Drop>(alloc: Global, disk: D) -> Result<RecordFile<D>, Fail>
+pub(crate) fn reopened<D: Disk + Drop>(alloc: Global, disk: D) -> Result<RecordFile<D>, Fail>
     ensures { IfOk result (λ file. file.stopped ≡ false) }
 {
     Ok(RecordFile::open(alloc, disk).ok().ok_or("opened")?)
@@ -89,11 +104,11 @@ fn two_written(alloc: Global) -> Result<MemDisk, Fail> {
     Ok(file.into_disk())
 }
 
-fn has_bytes(alloc: Global, disk: &MemDisk, wanted: &[u8]) -> Result<bool, AllocError> {
+pub(crate) fn has_bytes(alloc: Global, disk: &MemDisk, wanted: &[u8]) -> Result<bool, AllocError> {
     Ok(disk.read(alloc)?.as_slice() == wanted)
 }
 
-fn are_the_two(records: &[Record]) -> bool {
+pub(crate) fn are_the_two(records: &[Record]) -> bool {
     matches!(
         records,
         [
@@ -153,25 +168,37 @@ fn a_file_is_opened_again_whether_it_has_stopped_or_not(rt: HostRuntime) -> Resu
 /// Where the second gate is.
 const SECOND_GATE: usize = 33;
 
-/// A byte that is changed, and how many records are found then: none where the file is damaged.
-const CHANGED_FILES: &[(usize, u8, Option<usize>)] = &[
-    (0, b'X', Some(2)),
-    (SECOND_GATE, 0, Some(1)),
-    (SECOND_GATE, 7, Some(1)),
-    (37, 0xff, None),
-    (65, 1, None),
-    (0, b'Y', None),
-    (3, b'3', None),
+/// A file, a byte of it that is changed, and how many records are found then: none where the file is damaged.
+const CHANGED_FILES: &[(&[u8], usize, u8, Option<usize>)] = &[
+    (&OLD_RECORDS, 0, b'X', Some(2)),
+    (&OLD_RECORDS, SECOND_GATE, 0, Some(1)),
+    (&OLD_RECORDS, SECOND_GATE, 7, Some(1)),
+    (&OLD_RECORDS, 37, 0xff, None),
+    (&OLD_RECORDS, 58, b'd', Some(2)),
+    (&OLD_RECORDS, 65, 1, None),
+    (&OLD_RECORDS, 0, b'Y', None),
+    (&OLD_RECORDS, 3, b'2', None),
+    (&OLD_RECORDS, 3, b'3', None),
+    (&TWO_RECORDS, 0, b'X', Some(2)),
+    (&TWO_RECORDS, SECOND_GATE, 0, Some(1)),
+    (&TWO_RECORDS, SECOND_GATE, 7, Some(1)),
+    (&TWO_RECORDS, 37, 0xff, None),
+    // A byte of a block, the first one and the last one of a digest.
+    (&TWO_RECORDS, 58, b'd', None),
+    (&TWO_RECORDS, 59, 0, None),
+    (&TWO_RECORDS, 128, 0, None),
+    (&TWO_RECORDS, 129, 1, None),
+    (&TWO_RECORDS, 3, b'1', None),
 ];
 
-fn disk_of(alloc: Global, bytes: &[u8]) -> Result<MemDisk, DiskFault> {
+pub(crate) fn disk_of(alloc: Global, bytes: &[u8]) -> Result<MemDisk, DiskFault> {
     let mut disk = MemDisk::new(alloc);
     disk.write_at(0, bytes)?;
     disk.sync()?;
     Ok(disk)
 }
 
-fn found_in(
+pub(crate) fn found_in(
     alloc: Global,
     opened: Result<RecordFile<MemDisk>, (FileFault, MemDisk)>,
     len: usize,
@@ -190,13 +217,19 @@ fn found_in(
     }
 }
 
-/// How many records are found in the first bytes of the file, of which one is changed.
-fn found(alloc: Global, at: usize, byte: u8, len: usize) -> Result<Option<usize>, FileFault> {
-    let mut bytes = TWO_RECORDS;
+/// How many records are found in the first bytes of a file, of which one is changed.
+fn found(
+    alloc: Global,
+    file: &[u8],
+    at: usize,
+    byte: u8,
+    len: usize,
+) -> Result<Option<usize>, FileFault> {
+    let mut bytes = file.to_vec(alloc)?;
     if let Some(changed) = bytes.get_mut(at) {
         *changed = byte;
     }
-    let kept = &bytes[..len.min(66)];
+    let kept = &bytes[..len.min(file.len())];
     found_in(
         alloc,
         RecordFile::open(alloc, disk_of(alloc, kept)?),
@@ -206,10 +239,10 @@ fn found(alloc: Global, at: usize, byte: u8, len: usize) -> Result<Option<usize>
 
 #[test]
 fn what_is_found_in_changed_files(rt: HostRuntime) {
-    for (at, byte, wanted) in CHANGED_FILES {
+    for (file, at, byte, wanted) in CHANGED_FILES {
         assert!(rt;
-            found(rt.alloc(), *at, *byte, 66) == Ok(*wanted),
-            "{at} {byte}"
+            found(rt.alloc(), file, *at, *byte, file.len()) == Ok(*wanted),
+            "{at} {byte} of {file:?}"
         );
     }
 }
@@ -217,16 +250,22 @@ fn what_is_found_in_changed_files(rt: HostRuntime) {
 /// A file that ends before its last gate, while the gates before it are open, is damaged. Behind a closed one nothing is read.
 #[test]
 fn what_is_found_in_files_cut_short(rt: HostRuntime) {
-    for len in 0..66 {
+    for len in 0..130 {
         assert!(rt;
-            found(rt.alloc(), SECOND_GATE, 1, len) == Ok(None),
+            found(rt.alloc(), &TWO_RECORDS, SECOND_GATE, 1, len) == Ok(None),
             "{len} bytes"
         );
     }
-    for len in 0..67 {
+    for len in 0..66 {
+        assert!(rt;
+            found(rt.alloc(), &OLD_RECORDS, SECOND_GATE, 1, len) == Ok(None),
+            "{len} bytes of version 1"
+        );
+    }
+    for len in 0..131 {
         let wanted = if len <= SECOND_GATE { None } else { Some(1) };
         assert!(rt;
-            found(rt.alloc(), SECOND_GATE, 0, len) == Ok(wanted),
+            found(rt.alloc(), &TWO_RECORDS, SECOND_GATE, 0, len) == Ok(wanted),
             "{len} bytes, the second gate closed"
         );
     }
@@ -253,7 +292,7 @@ fn fails_in_a_stop(
     keep: bool,
 ) -> Result<bool, DiskFault>
     requires running { file.old.stopped ≡ false }
-    requires version { file.old.version ≡ V1 }
+    requires version { file.old.version ≡ V2 }
 {
     append(alloc, file, make())?;
     file.stop_at(calls, keep);
@@ -343,7 +382,7 @@ fn a_real_file(rt: HostRuntime) -> Result<(), Fail> {
     two_real_records(&rt)?;
     assert!(rt; is_file(&rt, PATH, 65_536, &[&TWO_RECORDS])?);
     assert!(rt; one_more_real_record(&rt)? == 2);
-    let three_records = [&TWO_RECORDS[..65], &TWO_RECORDS[4..33]];
+    let three_records = [&TWO_RECORDS[..129], &TWO_RECORDS[4..33]];
     assert!(rt; is_file(&rt, PATH, 65_536, &three_records)?);
     assert!(rt; one_more_real_record(&rt)? == 3);
     fs::remove_file(&rt, PATH)?;

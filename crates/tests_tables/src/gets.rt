@@ -10,11 +10,14 @@ use checkpoint::{InstalledIndex, InstalledIndexes};
 use checkpoint_format::decode;
 use memtable::{Cell, MemTable, Place};
 use metadata::KeyRange;
-use model_partition::Pause;
+use model_partition::{Pause, TableNote};
 use range_reads::{Asking, Lookups, MAX_GETS, Tried};
 use std::alloc::{AllocError, Global};
 use std::test::Fail;
-use wire::{ActorId, AppendBody, Body, ExtentId, Packet, ReadBody, Refusal, ReqNo, TableBody};
+use wire::{
+    ActorId, AppendBody, Body, ExtentId, Fence, Packet, RangeId, ReadBody, Refusal, ReqNo,
+    TableBody,
+};
 
 /// What the Gets of a table are called for.
 pub(crate) enum Call {
@@ -339,6 +342,7 @@ fn gives_up(
     Ok(Some(Tried {
         count: asking.context.count,
         packets: lookups.give_up(alloc, asking)?,
+        notes: Vec::new(alloc),
     }))
 }
 
@@ -353,6 +357,8 @@ fn called(
     let log = [extent(None)];
     let asking = Asking {
         context: &context,
+        range: RangeId(4),
+        generation: Fence(6),
         until: getting.until,
         pause: Pause::Off,
         table: &getting.table,
@@ -398,11 +404,44 @@ fn is_sent(packet: &Packet, sent: &Sent) -> bool {
     }
 }
 
+/// A value that is sent is shown, under the range and its generation, and nothing else is.
+fn is_shown(notes: &[TableNote], sent: &Sent) -> bool {
+    match (notes, sent) {
+        (
+            [
+                TableNote::Got {
+                    range,
+                    generation,
+                    value: Some(bytes),
+                    ..
+                },
+            ],
+            Sent::Value(length),
+        ) => *range == RangeId(4) && *generation == Fence(6) && bytes.len() == *length,
+        (
+            [
+                TableNote::Got {
+                    range,
+                    generation,
+                    value: None,
+                    ..
+                },
+            ],
+            Sent::NoValue,
+        ) => *range == RangeId(4) && *generation == Fence(6),
+        ([], Sent::Value(_) | Sent::NoValue) => false,
+        ([], _) => true,
+        _ => false,
+    }
+}
+
 fn comes_to(tried: &Option<Tried>, count: u64, sent: &Sent) -> bool {
     match tried {
         Some(tried) => match (tried.packets.as_slice(), sent) {
-            ([], Sent::Nothing) => tried.count == count,
-            ([only], _) => tried.count == count && is_sent(only, sent),
+            ([], Sent::Nothing) => tried.count == count && is_shown(&tried.notes, sent),
+            ([only], _) => {
+                tried.count == count && is_sent(only, sent) && is_shown(&tried.notes, sent)
+            }
             _ => false,
         },
         None => false,

@@ -2,7 +2,7 @@
 use crate::cases::{Case, Tested, holds};
 use crate::records::{GAP, KEYS, groups};
 use bytes::Bytes;
-use memtable::{Cell, MemTable, Place};
+use memtable::{Cell, Key, MemTable, Place};
 use metadata::{KeyRange, Metadata, Region, copied_regions};
 use range_replay::{folded, open_region, replayed};
 use std::alloc::Global;
@@ -110,7 +110,7 @@ fn is_placed(log: &Log, offset: u32, length: u32) -> bool {
         offset,
         length,
     };
-    match log.table.get(&Bytes::from_static(b"b")) {
+    match log.table.get(&Key::of(Bytes::from_static(b"b"))) {
         Some(Cell::Placed(place)) => *place == wanted,
         _ => false,
     }

@@ -58,6 +58,13 @@ pub enum Note {
         rows: Rows,
         next: u64,
     },
+    /// A server answered a Get of this key, under a generation: with this value, or that there is none.
+    Got {
+        range: RangeId,
+        generation: Fence,
+        key: Bytes,
+        value: Option<Bytes>,
+    },
     /// The map split a range at a key.
     Split {
         range: RangeId,

@@ -120,7 +120,8 @@ impl Run {
     /// extent agrees, and every acknowledged append stands in it at its answered offset. Where no event merged ranges, whatever was
     /// split, what was observed of tables replays too: each table that a load shows is, within the range's keys, that of a line of
     /// transactions that has every one that was acknowledged under an earlier generation, of the range or of one that it was split
-    /// from, in order, each once.
+    /// from, in order, each once; and each Get that was answered shows what was stored under its key after every transaction that
+    /// was acknowledged by then.
     pub fn observations(&self) -> &[Note]
         ensures notes { result.now ≡ self.now.stream_layer.notes }
         ensures agree { Agree result.now }

@@ -16,7 +16,8 @@ use world_streams::{Setup, WorldFault};
 /// shown of an extent agrees, and every acknowledged append stands in it at its answered offset. Where no event merges ranges,
 /// whatever is split, what is observed of tables replays too: each table that is loaded is, within the range's keys, that of a line
 /// of transactions that has every one that was acknowledged under an earlier generation, of the range or of one that it was split
-/// from, in order, each once.
+/// from, in order, each once; and each Get that is answered shows what is stored under its key after every transaction that was
+/// acknowledged so far.
 pub fn run(alloc: Global, setup: &Setup, events: &[Event]) -> Result<Finished, WorldFault>
     ensures led { IfOk result (λ r. ReachedBy events.now (first_cluster setup.now.nodes setup.now.servers setup.now.target setup.now.batch) r) }
     // what it shows is what the events make of the model's cluster

@@ -49,6 +49,7 @@ other_shows (notes.SealedAt e size) place is = refl
 other_shows (notes.Began range generation number changes) place is = refl
 other_shows (notes.Done range generation number) place is = refl
 other_shows (notes.Loaded range generation rows next) place is = refl
+other_shows (notes.Got range generation key value) place is = refl
 other_shows (notes.Split range low high key) place is = refl
 other_shows (notes.Merged left right range) place is = refl
 

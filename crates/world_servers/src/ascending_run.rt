@@ -6,7 +6,7 @@ ghost use Rattle.checkpoint_format.specs.Page.{is_ascending};
 ghost use Rattle.world_servers.specs.Runs.{entries_above, entries_below, merged_entries};
 
 use bytes::Bytes;
-use memtable::Cell;
+use memtable::{Cell, Cells, Key};
 use std::alloc::{AllocError, Global};
 use std::cmp::Ordering;
 use std::collections::{BTreeMap, VecDeque};
@@ -101,14 +101,11 @@ fn merged(
 }
 
 /// Puts changes at their keys, from left to right.
-fn put_changes(
-    map: &mut BTreeMap<Bytes, Cell>,
-    changes: Vec<(Bytes, Cell)>,
-) -> Result<(), AllocError>
+fn put_changes(map: &mut Cells, changes: Vec<(Bytes, Cell)>) -> Result<(), AllocError>
     ensures { OnOk result (map.new.entries ≡ put_all map.old.entries changes.items) }
 {
     for (key, cell) in changes {
-        map.insert(key, cell)?;
+        map.insert(Key::of(key), cell)?;
     }
     Ok(())
 }
@@ -124,15 +121,12 @@ impl AscendingRun {
     }
 
     /// The entries of a map, which share its keys and values.
-    pub(crate) fn copied(
-        alloc: Global,
-        map: &BTreeMap<Bytes, Cell>,
-    ) -> Result<AscendingRun, AllocError>
+    pub(crate) fn copied(alloc: Global, map: &Cells) -> Result<AscendingRun, AllocError>
         ensures { IfOk result (λ run. run ≡ map.now.entries) }
     {
         let mut entries = Vec::with_capacity(alloc, map.len())?;
         for (key, cell) in map {
-            entries.push((key.clone()?, cell.copy()?))?;
+            entries.push((key.bytes().clone()?, cell.copy()?))?;
         }
         Ok(AscendingRun { entries })
     }

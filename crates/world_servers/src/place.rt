@@ -115,6 +115,7 @@ fn shown_in(alloc: Global, note: &Note, place: &Place) -> Result<Option<Bytes>, 
         Note::Began { .. } => Ok(None),
         Note::Done { .. } => Ok(None),
         Note::Loaded { .. } => Ok(None),
+        Note::Got { .. } => Ok(None),
         Note::Split { .. } => Ok(None),
         Note::Merged { .. } => Ok(None),
     }

@@ -8,10 +8,9 @@ use crate::place::first_shown;
 use crate::seen::SeenByExtent;
 use crate::table_entries::entries_shown;
 use bytes::Bytes;
-use memtable::Cell;
+use memtable::{Cell, Cells};
 use model_partition::TableView;
 use std::alloc::{AllocError, Global};
-use std::collections::BTreeMap;
 use wire::{Note, Row, Rows};
 
 fn push_row(
@@ -63,14 +62,14 @@ fn live_rows(
     alloc: Global,
     notes: &[Note],
     seen: &SeenByExtent,
-    live: &BTreeMap<Bytes, Cell>,
+    live: &Cells,
 ) -> Result<Rows, AllocError>
     requires { IsIndex notes.now seen.now }
     ensures { IfOk result (λ rows. rows ≡ rows_in notes.now (put_all [] live.now.entries)) }
 {
     let mut rows = Vec::with_capacity(alloc, live.len())?;
     for (key, cell) in live {
-        push_row(alloc, &mut rows, notes, seen, key, cell)?;
+        push_row(alloc, &mut rows, notes, seen, key.bytes(), cell)?;
     }
     Ok(Rows { items: rows })
 }

@@ -75,6 +75,7 @@ fn extent_of(note: &Note) -> Option<u64>
         Note::Began { .. } => None,
         Note::Done { .. } => None,
         Note::Loaded { .. } => None,
+        Note::Got { .. } => None,
         Note::Split { .. } => None,
         Note::Merged { .. } => None,
     }

@@ -22,11 +22,13 @@ told_plain : (shown : List Note) (rows : List Row) (note : TableNote) (more : Li
 told_plain shown rows (tables.Began range generation number changes) more h = refl
 told_plain shown rows (tables.Done range generation number) more h = refl
 told_plain shown rows (tables.Loaded range generation table next) more h = absurd h
+told_plain shown rows (tables.Got range generation key value) more h = refl
 
 later_plain : (note : TableNote) (more : List TableNote) → ArePlain (note ∷ more) → ArePlain more
 later_plain (tables.Began range generation number changes) more h = h
 later_plain (tables.Done range generation number) more h = h
 later_plain (tables.Loaded range generation table next) more h = absurd h
+later_plain (tables.Got range generation key value) more h = h
 
 head_is : {A : Type 0} (x y : A) (xs ys : List A) → x ∷ xs ≡ y ∷ ys → (x ≡ y) × (xs ≡ ys)
 head_is x y xs ys e = (cc, cc)

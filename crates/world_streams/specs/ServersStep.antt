@@ -37,6 +37,7 @@ abbrev pub told_with : TableNote → List Row → Note
 told_with (tables.Began range generation number changes) rows = notes.Began range generation number changes
 told_with (tables.Done range generation number) rows = notes.Done range generation number
 told_with (tables.Loaded range generation table next) rows = notes.Loaded range generation rows next
+told_with (tables.Got range generation key value) rows = notes.Got range generation key value
 
 -- the layer with what the map sends and shows
 abbrev pub with_told_by_map : StreamLayerState → List Packet → List Note → StreamLayerState

@@ -101,6 +101,17 @@ fn told(note: TableNote, rows: Rows) -> Note
             rows,
             next,
         },
+        TableNote::Got {
+            range,
+            generation,
+            key,
+            value,
+        } => Note::Got {
+            range,
+            generation,
+            key,
+            value,
+        },
     }
 }
 

@@ -1,4 +1,4 @@
-use Rattle.laws_tables.proofs.FamilyRuns.{families_replay}
+use Rattle.laws_tables.proofs.FamilyRuns.{families_replay, families_serve}
 use Rattle.laws_tables.proofs.Final.{tables_of_first_range_replay}
 use Rattle.laws_tables.proofs.Machine.{chain_replays}
 use Rattle.laws.proofs.tables.tables_replay.Goals as goal
@@ -11,3 +11,6 @@ returns-clause-law c = λ layer_at rows run h is_run keeps right order ends meta
 
 pub returns-clause-families : goal.returns-clause-families
 returns-clause-families c = λ layer_at h family. families_replay layer_at h family
+
+pub returns-clause-reads : goal.returns-clause-reads
+returns-clause-reads c = λ layer_at h family reads. families_serve layer_at h family reads

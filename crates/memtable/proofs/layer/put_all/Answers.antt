@@ -13,7 +13,7 @@ loop-key-preserved c = record {
   undos = grind (arith, common_steps);
   fits = grind (arith, common_steps);
   numbered = λ before.
-      subst AreNumbered (sym c.in-Ok.ensures.entries) (numbered_insert c.in-Some.key c.in-Some.cell c.loop-key.layer.entries c.in-Ok.ensures.numbered (c.loop-key.invariant.numbered before));
+      subst AreNumbered (sym c.in-Ok.ensures.entries) (numbered_insert c.of.result c.in-Some.cell c.loop-key.layer.entries c.in-Ok.ensures.numbered (c.loop-key.invariant.numbered before));
 }
 
 pub returns-in-Err-clause-err : goal.returns-in-Err-clause-err

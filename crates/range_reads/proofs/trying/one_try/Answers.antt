@@ -1,6 +1,5 @@
-use Rattle.std.proofs.Common.{◌∷◌, [], sym, ap, ◌∙◌}
+use Rattle.std.proofs.Common.{sym, ap, ◌∙◌}
 use Rattle.std.proofs.lemmas.Result.{IfOk-weaker}
-use Rattle.wire.specs.declared.packet.Packet.{Packet}
 use Rattle.memtable.specs.Layers.{cell_at}
 use Rattle.model_partition.specs.Getting.{indexed_value}
 use Rattle.model_partition.specs.Getting as getting
@@ -16,13 +15,14 @@ returns-in-Some-clause-value c = λ r is.
     (sym (c.in-Some.ensures c.args.count (view_content c.args.view.now) r)) c.refuses-packet.ensures
 
 pub returns-in-Ok-Is-clause-value : goal.returns-in-Ok-Is-clause-value
-returns-in-Ok-Is-clause-value c = λ r is.
+returns-in-Ok-Is-clause-value c =
     let d = record c.args.asking.now.context.now { count = c.args.count } in
     let held = view_content c.args.view.now in
     let found = rw c.in-Ok-Is.field-0-is at c.in-Ok-Is.ensures in
-    ap (λ (p : Packet). record { waiting = []; count = c.args.count; packets = p ∷ [] }) c.answers.ensures
-    ∙ in_time d (seen c.args.asking.now held r) c.args.get (getting.Is c.in-Ok-Is.value) (sym (c.in_default.ensures c.args.count held r))
-    (found ∙ ap (indexed_value (view_content c.args.view.now)) is ∙ look_is held c.args.asking.now.indexes.now c.args.get.key (cell_at c.args.asking.now.table.now c.args.get.key))
+    IfOk-weaker c.answers.result _ _
+    (λ one tried r is. tried held r ∙ in_time d (seen c.args.asking.now held r) c.args.get (getting.Is c.in-Ok-Is.value) (sym (c.in_default.ensures c.args.count held r))
+    (found ∙ ap (indexed_value (view_content c.args.view.now)) is ∙ look_is held c.args.asking.now.indexes.now c.args.get.key (cell_at c.args.asking.now.table.now c.args.get.key)))
+    c.answers.ensures.value
 
 pub returns-in-Ok-Needs-clause-value : goal.returns-in-Ok-Needs-clause-value
 returns-in-Ok-Needs-clause-value c =

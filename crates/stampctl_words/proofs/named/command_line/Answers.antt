@@ -13,4 +13,5 @@ returns c =
     let run = c.in_ok-subcommand.ensures.shape c.in_ok-run.ensures.local ∙ ap₂ with_subcommand top c.in_ok-run.ensures.shape in
     let trace = c.in_ok-subcommand-2.ensures.shape c.in_ok-trace.ensures.local ∙ ap₂ with_subcommand run c.in_ok-trace.ensures.shape in
     let draw = c.in_ok-subcommand-3.ensures.shape c.in_ok-draw.ensures.local ∙ ap₂ with_subcommand trace c.in_ok-draw.ensures.shape in
-    IfOk-weaker c.subcommand-4.result _ _ (λ new added. added.shape c.in_ok-dump.ensures.local ∙ ap₂ with_subcommand draw c.in_ok-dump.ensures.shape) c.subcommand-4.ensures
+    let dump = c.in_ok-subcommand-4.ensures.shape c.in_ok-dump.ensures.local ∙ ap₂ with_subcommand draw c.in_ok-dump.ensures.shape in
+    IfOk-weaker c.subcommand-5.result _ _ (λ new added. added.shape c.in_ok-migrate.ensures.local ∙ ap₂ with_subcommand dump c.in_ok-migrate.ensures.shape) c.subcommand-5.ensures

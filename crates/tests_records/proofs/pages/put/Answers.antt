@@ -1,4 +1,4 @@
-use Rattle.std.proofs.Common.{List, [], ◌∷◌, ℕ}
+use Rattle.std.proofs.Common.{List, [], ◌∷◌, ℕ, subst, sym}
 use Rattle.std.specs.List.{AllByRecursion}
 use Rattle.std.specs.Ordering.{match_ordering}
 use Rattle.std.specs.BTreeMap.{insert_entry}
@@ -20,4 +20,4 @@ all_put (e ∷ es) key cell all is_key is_cell =
     ]
 
 pub returns : goal.returns
-returns c = rw c.in_ok-insert.ensures.entries (all_put c.args.table.now.entries c.args.key c.args.cell c.requires.old c.requires.key c.requires.cell)
+returns c = rw c.in_ok-insert.ensures.entries (all_put c.args.table.now.entries c.of.result c.args.cell c.requires.old (subst IsKey (sym c.of.ensures) c.requires.key) c.requires.cell)

@@ -10,7 +10,7 @@ returns-in_ok-overwrite-in-None c =
     record {
       written = done;
       crash = crash_done was.image now c.args.at c.args.bytes.now c.requires done c.overwrite.ensures.synced;
-      time = goes_by was.image now was.history.events c.note.new.self.events 0 was.image.seen _ _ _ (c.note.ensures ∙ ap (λ (l : List ℕ). (0, l) ∷ was.history.events) c.bytes.ensures) (inl refl) (λ f there. ⊎_elim (λ seen. inl seen) (λ synced. inr (inr (synced ∙ sym c.overwrite.ensures.synced))) there);
+      time = goes_by was.image now was.history.events c.note_seen.new.self.events 0 was.image.seen _ _ _ (c.note_seen.ensures) (inl refl) (λ f there. ⊎_elim (λ seen. inl seen) (λ synced. inr (inr (synced ∙ sym c.overwrite.ensures.synced))) there);
       cause = search rules;
       spent = λ le. spends_write was.image now _ _ _ _ _ c.args.at c.args.bytes.now c.requires done c.overwrite.ensures.keeps le;
       synced = c.overwrite.ensures.synced;
@@ -26,7 +26,7 @@ returns-in_ok-overwrite-in-Some-true c =
     record {
       written = tt;
       crash = crash_done was.image now c.args.at c.args.bytes.now c.requires done c.overwrite-in-Some-true.ensures.synced;
-      time = goes_by was.image now was.history.events c.note-in-Some-true.new.self.events 1 was.image.seen _ _ _ (c.note-in-Some-true.ensures ∙ ap (λ (l : List ℕ). (1, l) ∷ was.history.events) c.bytes-in-Some-true.ensures) (inl refl) (λ f there. ⊎_elim (λ seen. inl seen) (λ synced. inr (inr (synced ∙ sym c.overwrite-in-Some-true.ensures.synced))) there);
+      time = goes_by was.image now was.history.events c.note_seen-in-Some-true.new.self.events 1 was.image.seen _ _ _ (c.note_seen-in-Some-true.ensures) (inl refl) (λ f there. ⊎_elim (λ seen. inl seen) (λ synced. inr (inr (synced ∙ sym c.overwrite-in-Some-true.ensures.synced))) there);
       cause = search rules;
       spent = λ _. tt;
       synced = tt;
@@ -41,7 +41,7 @@ returns-in-Some-false c =
     record {
       written = tt;
       crash = crash_none was.image now c.args.at _ (λ f there. ⊎_elim (λ seen. inr (seen ∙ c.forget.ensures.seen)) (λ synced. inr (synced ∙ c.forget.ensures.synced)) there);
-      time = goes_by was.image now was.history.events c.note-in-Some-false.new.self.events 1 was.image.seen _ _ _ (c.note-in-Some-false.ensures ∙ ap (λ (l : List ℕ). (1, l) ∷ was.history.events) c.bytes-in-Some-false.ensures) (inl refl) (λ f there. ⊎_elim (λ seen. inl seen) (λ synced. inr (inl (synced ∙ sym c.forget.ensures.seen))) there);
+      time = goes_by was.image now was.history.events c.note_seen-in-Some-false.new.self.events 1 was.image.seen _ _ _ (c.note_seen-in-Some-false.ensures) (inl refl) (λ f there. ⊎_elim (λ seen. inl seen) (λ synced. inr (inl (synced ∙ sym c.forget.ensures.seen))) there);
       cause = search rules;
       spent = λ _. tt;
       synced = tt;

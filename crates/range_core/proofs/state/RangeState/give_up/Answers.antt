@@ -17,8 +17,8 @@ use Rattle.range_core.proofs.state.RangeState.give_up.Goals as goal
 pub returns-clause-ok : goal.returns-clause-ok
 returns-clause-ok c =
     let before : RangeState = the_view c.self.inside in
-    let moved = c.in_ok-reads.ensures.gets before (record { until = refl; pause = refl; live = refl; fixed = refl; log = c.known_extents.ensures; blob = c.extents_of.ensures; rows = c.known_extents-2.ensures; indexes = c.indexes_of.ensures }) in
-    let reads = c.in_ok-reads.ensures.packets before (record { until = refl; pause = refl; live = refl; fixed = refl; log = c.known_extents.ensures; blob = c.extents_of.ensures; rows = c.known_extents-2.ensures; indexes = c.indexes_of.ensures }) in
+    let moved = c.in_ok-reads.ensures.gets before (record { range = c.held_under-range.ensures.0; generation = c.held_under-range.ensures.1; until = refl; pause = refl; live = refl; fixed = refl; log = c.known_extents.ensures; blob = c.extents_of.ensures; rows = c.known_extents-2.ensures; indexes = c.indexes_of.ensures }) in
+    let reads = c.in_ok-reads.ensures.packets before (record { range = c.held_under-range.ensures.0; generation = c.held_under-range.ensures.1; until = refl; pause = refl; live = refl; fixed = refl; log = c.known_extents.ensures; blob = c.extents_of.ensures; rows = c.known_extents-2.ensures; indexes = c.indexes_of.ensures }) in
     let mid : RangeContent = c.give_up-loading.new.content in
     let new : RangeContent = c.give_up-checkpoint.new.content in
     let after : RangeState = record before { gets = c.give_up.new.self.gets } in

@@ -15,7 +15,7 @@ returns-in_default-clause-ok c = λ r sees own.
     let mine = subst (IsOf r) (sym c.self.view_is) own in
     let asked = c.read_of-asked.ensures ∙ (λ i. read_at (c.deref.ensures.value i) c.args.number.now) ∙ (λ i. read_at (mine.gets i) c.args.number.now) in
     let none = ap (λ (o : Option PlaceRead). are_no_page o c.args.bytes.now) (sym asked) ∙ sym c.in_ok-kept.ensures.none ∙ ap (λ (o : Option (List ℕ)). not (is_some o)) c.in_default.is in
-    none_taken c.args.asking.now.context.now r c.args.self.now c.args.number.now (place_of c.args.extent c.args.offset c.args.bytes.now) c.args.bytes.now c.new.result.items own none c.new.ensures.items
+    none_taken c.args.asking.now.context.now r c.args.self.now c.args.number.now (place_of c.args.extent c.args.offset c.args.bytes.now) c.args.bytes.now c.new.result.items c.new-in_default.result.items own none c.new.ensures.items c.new-in_default.ensures.items
 
 pub returns-clause-ok : goal.returns-clause-ok
 returns-clause-ok c = λ r sees own.
@@ -32,4 +32,4 @@ returns-clause-ok c = λ r sees own.
     let after = c.in_ok-hold_some.ensures.ok ∙ fresh ∙ (λ i. came (mine.held i) (asked i) (place_of c.args.extent c.args.offset c.args.bytes.now) c.args.bytes.now) in
     rw some (ap (λ (h : Values). bytes_with c.args.asking.now.context.now r c.args.number.now h) (sym after)
     ∙ bytes_taken c.args.asking.now.context.now r c.args.asking.now (record { gets = inside.gets.items; held = inside.held }) c.args.number.now c.deref-2.result.now (with_fresh inside.held c.fresh_of-fresh.result) c.hold_some.new.held
-    (record { waiting = t.waiting.items; count = t.count; packets = t.packets.items }) sees mine c.deref-2.ensures.value c.in_ok-hold_some.ensures.ok (c.in_ok-tries.ensures.value r))
+    (record { waiting = t.waiting.items; count = t.count; packets = t.packets.items; notes = t.notes.items }) sees mine c.deref-2.ensures.value c.in_ok-hold_some.ensures.ok (c.in_ok-tries.ensures.value r))

@@ -16,13 +16,14 @@ returns-clause-ok c = λ r sees own.
     let mine = subst (IsOf r) (sym c.self.view_is) own in
     let reads : c.new.result.items ≡ [] = c.new.ensures.items in
     let found = c.in_ok-found.ensures ∙ (λ i. newest_cell (held_at c.self.inside.held) c.args.asking.now.indexes.now (c.deref.ensures i) (c.get-cell.ensures i)) in
-    let tried = c.in_ok-one.ensures.value r found ∙ ap (λ (l : List PlaceRead). try c.args.asking.now.context.now (seen c.args.asking.now c.self.inside.held r) (record { from = c.args.from; request = c.args.number; key = c.args.key; reads = l })) reads in
-    let cell = stands r c.args.asking.now c.args.key sees in
+    let tried = c.in_ok-one.ensures.value r found ∙ ap (λ (l : List PlaceRead). try c.args.asking.now.context.now (seen c.args.asking.now c.self.inside.held r) (record { from = c.args.from; request = c.args.number; key = c.of-key.result; reads = l })) reads in
+    let cell = stands r c.args.asking.now c.of-key.result sees in
     let pages = c.deref-3.ensures.value ∙ c.in_ok-pages.ensures ∙ (λ i. pages_used c.args.asking.now.indexes.now (c.deref-2.ensures i) (c.get-cell.ensures i)) in
     let place = c.value_used-place.ensures ∙ ap (λ (l : Lookup). placed (found_cell l)) found in
-    let after = c.promote_some.ensures ∙ (λ i. used_at (c.promote_each.ensures i) (place i)) ∙ ap (λ l. used_at (used_all c.self.inside.held l) (placed (found_cell (newest_cell (held_at c.self.inside.held) c.args.asking.now.indexes.now c.args.key (cell_at c.args.asking.now.table.now c.args.key))))) pages
-    ∙ (λ i. used_at (used_all (mine.held i) (pages_used (sees.indexes i) c.args.key (cell i))) (placed (found_cell (newest_cell (held_at (mine.held i)) (sees.indexes i) c.args.key (cell i)))))
-    ∙ is_used_for r.held r.indexes c.args.key (standing r c.args.key) in
-    ap (λ (h : Values). gets_after (record r { held = h }) r.gets (try c.args.asking.now.context.now r (record { from = c.args.from; request = c.args.number; key = c.args.key; reads = [] }))) (sym after)
-    ∙ get_taken c.args.asking.now.context.now r c.args.asking.now (record { gets = inside.gets.items; held = inside.held }) (record { from = c.args.from; request = c.args.number; key = c.args.key; reads = [] }) c.in_ok-one.one c.promote_some.new.held c.push_some.new.items.items c.in_ok-packets.packets.items
-    sees mine tried c.in_ok-push_some.ensures.ok c.in_ok-packets.ensures
+    let after = c.promote_some.ensures ∙ (λ i. used_at (c.promote_each.ensures i) (place i)) ∙ ap (λ l. used_at (used_all c.self.inside.held l) (placed (found_cell (newest_cell (held_at c.self.inside.held) c.args.asking.now.indexes.now c.of-key.result (cell_at c.args.asking.now.table.now c.of-key.result))))) pages
+    ∙ (λ i. used_at (used_all (mine.held i) (pages_used (sees.indexes i) c.of-key.result (cell i))) (placed (found_cell (newest_cell (held_at (mine.held i)) (sees.indexes i) c.of-key.result (cell i)))))
+    ∙ is_used_for r.held r.indexes c.of-key.result (standing r c.of-key.result) in
+    rw (← c.of-key.ensures)
+    (ap (λ (h : Values). gets_after (record r { held = h }) r.gets (try c.args.asking.now.context.now r (record { from = c.args.from; request = c.args.number; key = c.of-key.result; reads = [] }))) (sym after)
+    ∙ get_taken c.args.asking.now.context.now r c.args.asking.now (record { gets = inside.gets.items; held = inside.held }) (record { from = c.args.from; request = c.args.number; key = c.of-key.result; reads = [] }) c.in_ok-one.one c.promote_some.new.held c.push_some.new.items.items c.in_ok-packets.packets.items c.in_ok-notes.notes.items
+    sees mine tried c.in_ok-push_some.ensures.ok c.in_ok-packets.ensures c.in_ok-notes.ensures)
