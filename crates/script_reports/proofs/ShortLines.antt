@@ -12,13 +12,13 @@ short_decimal n below =
     length-decimal-le 20 n (omega arith) wide below
 
 -- there is room for a number, and for the blank before it
-pub number_fits : (n start : ℕ) (bytes text : List ℕ) → n < 2 ^ 64 → length bytes ≡ 128 → drop start bytes ≡ text → start ≤ 128 → length text + 21 ≤ 128 → length (decimal n) + 1 ≤ start
+pub number_fits : (n start : ℕ) (bytes text : List ℕ) → n < 2 ^ 64 → length bytes ≡ 512 → drop start bytes ≡ text → start ≤ 512 → length text + 21 ≤ 512 → length (decimal n) + 1 ≤ start
 number_fits n start bytes text below whole is within room =
     omega (arith, short_decimal n below, ap length is, length-drop start bytes)
 
 -- the newline alone
-pub cleared : (bytes : List ℕ) → length bytes ≡ 128 → drop 127 (set bytes 127 10) ≡ 10 ∷ []
-cleared bytes whole = drop-set bytes 127 10 (omega (arith, whole)) ∙ ap (λ l. 10 ∷ l) (ap (λ n. drop n bytes) (sym whole) ∙ drop-length bytes)
+pub cleared : (bytes : List ℕ) → length bytes ≡ 512 → drop 511 (set bytes 511 10) ≡ 10 ∷ []
+cleared bytes whole = drop-set bytes 511 10 (omega (arith, whole)) ∙ ap (λ l. 10 ∷ l) (ap (λ n. drop n bytes) (sym whole) ∙ drop-length bytes)
 
 -- a number that was written before the text, and then the blank
 pub number_before : (n start first : ℕ) (before bytes text : List ℕ) → drop first bytes ≡ decimal n ++ drop start before → drop start before ≡ text

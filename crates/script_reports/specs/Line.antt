@@ -1,5 +1,5 @@
 -- A line: a word, and values after it, a blank (32) before each. It is `None` where nothing states the text of a value.
-use Rattle.std.specs.Prelude.{ℕ, List, [], ◌∷◌, ◌++◌, Option, Some, codes, decimal}
+use Rattle.std.specs.Prelude.{ℕ, List, [], ◌∷◌, ◌++◌, Option, None, Some, codes, decimal}
 use Rattle.std.specs.Fmt.{◌++?◌}
 
 -- the text, and one value more
@@ -25,3 +25,16 @@ three_line word first second third = word ++ 32 ∷ decimal first ++ 32 ∷ deci
 -- an answer of a word and a number, and the newline
 abbrev pub told_line : ℕ → ℕ → List ℕ → ℕ → List ℕ
 told_line user ticket word number = codes "user" ++ 32 ∷ decimal user ++ 32 ∷ decimal ticket ++ (word ++ 32 ∷ decimal number) ++ 10 ∷ []
+
+-- an answer of a word and a text, and the newline
+abbrev pub told_text_line : ℕ → ℕ → List ℕ → List ℕ → List ℕ
+told_text_line user ticket word text = codes "user" ++ 32 ∷ decimal user ++ 32 ∷ decimal ticket ++ word ++ text ++ 10 ∷ []
+
+-- how many bytes a value has, as a line ends, or that there is none
+abbrev pub value_length : Option ℕ → List ℕ
+value_length (Some size) = 32 ∷ decimal size
+value_length None = codes " none"
+
+-- a Get of a key that was answered with such a value, and the newline
+abbrev pub got_line : ℕ → ℕ → List ℕ → List ℕ → List ℕ
+got_line range generation key value = codes "got" ++ 32 ∷ decimal range ++ 32 ∷ decimal generation ++ 32 ∷ key ++ value ++ 10 ∷ []

@@ -34,6 +34,13 @@ impl HexText {
             text: hex::encode(alloc, bytes)?,
         })
     }
+
+    /// The text.
+    pub(crate) fn as_str(&self) -> &str
+        ensures { result.now ≡ self.now }
+    {
+        self.text.as_str()
+    }
 }
 
 impl fmt::Display for HexText {
