@@ -6,8 +6,8 @@ ghost use Rattle.block_types.specs.declared.record.Version.{Version};
 ghost use Rattle.disk.specs.File.{IsFileOf};
 ghost use Rattle.record_dump.specs.Dump.{IsDumpOf};
 
-use crate::dumping::{DumpFault, dump};
-use block_types::BlockFault;
+use crate::dumping::{DumpFault, write_lines};
+use block_types::{BlockFault, Record};
 use disk::{FileFault, MemDisk, RecordFile};
 use std::alloc::Global;
 use std::io::{self, Write};
@@ -55,14 +55,14 @@ impl From<DumpFault> for BytesFault {
     }
 }
 
-/// The record file that these bytes are, over a disk in memory. An error is bytes that are none (21), or out of memory (22).
-fn file_of(alloc: Global, bytes: Vec<u8>) -> Result<RecordFile<MemDisk>, BlockFault>
-    ensures ok { IfOk result (λ file. IsFileOf file.version file.records bytes.items) }
+/// The records of the file that these bytes are, each read once. An error is bytes that are none (21), or out of memory (22).
+fn records_of(alloc: Global, bytes: Vec<u8>) -> Result<Vec<Record>, BlockFault>
+    ensures ok { IfOk result (λ rs. (v : Version) × IsFileOf v rs.items bytes.items) }
     ensures damaged { IsErrOf result BlockFault.Damaged
         → (v : Version) (rs : List Record) → IsFileOf v rs bytes.items → ⊥ }
 {
-    match RecordFile::open(alloc, MemDisk::from_bytes(alloc, bytes)) {
-        Ok(file) => Ok(file),
+    match RecordFile::open_with_records(alloc, MemDisk::from_bytes(alloc, bytes)) {
+        Ok((_file, records)) => Ok(records),
         Err((FileFault::Damaged, _disk)) => Err(BlockFault::Damaged),
         Err((FileFault::Memory, _disk)) => Err(BlockFault::Memory),
         Err((FileFault::Failed, _disk)) => unreachable!(),
@@ -81,7 +81,7 @@ pub fn dump_bytes<W: Write>(alloc: Global, bytes: Vec<u8>, writer: &mut W) -> Re
     ensures checked_first { IsErrOf result BytesFault.Damaged → Keeps (W.contents writer.old) (W.contents writer.new) }
     ensures read_first { IsErrOf result BytesFault.Memory → Keeps (W.contents writer.old) (W.contents writer.new) }
 {
-    let file = file_of(alloc, bytes)?;
-    dump(alloc, &file, writer)?;
+    let records = records_of(alloc, bytes)?;
+    write_lines(&records, writer)?;
     Ok(())
 }

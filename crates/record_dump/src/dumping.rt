@@ -30,7 +30,7 @@ fn write_line<W: Write>(shown: &Record, writer: &mut W) -> Result<(), DumpFault>
 }
 
 /// Writes the lines of these records.
-fn write_lines<W: Write>(records: &[Record], writer: &mut W) -> Result<(), DumpFault>
+pub(crate) fn write_lines<W: Write>(records: &[Record], writer: &mut W) -> Result<(), DumpFault>
     ensures written { OnOk result (Appends (W.contents writer.old) (W.contents writer.new) (lines_of records.now)) }
     ensures read_first { IsErrOf result DumpFault.Memory → ⊥ }
 {

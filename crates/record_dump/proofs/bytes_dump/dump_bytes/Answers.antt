@@ -12,6 +12,6 @@ damaged_on (Ok x) fault is told = absurd is
 damaged_on (Err e) blocks.Damaged is told = refl
 damaged_on (Err e) blocks.Memory is told = cc
 
-pub returns-in_err-file-clause-damaged : goal.returns-in_err-file-clause-damaged
-returns-in_err-file-clause-damaged g c =
-    λ told text is. c.in_err-file.ensures.damaged (ap (λ (e : BlockFault). Err e) (damaged_on c.from_residual.result c.in_err-file.field-0.0 c.from_residual.ensures.1 told)) is.version is.records is.is
+pub returns-in_err-records-clause-damaged : goal.returns-in_err-records-clause-damaged
+returns-in_err-records-clause-damaged g c =
+    λ told text is. c.in_err-records.ensures.damaged (ap (λ (e : BlockFault). Err e) (damaged_on c.from_residual.result c.in_err-records.field-0.0 c.from_residual.ensures.1 told)) is.version is.records is.is

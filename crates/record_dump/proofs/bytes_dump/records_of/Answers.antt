@@ -1,6 +1,6 @@
 use Rattle.std.proofs.Common.{ℕ, List, subst, sym}
 use Rattle.disk.specs.File.{IsFileOf}
-use Rattle.record_dump.proofs.bytes_dump.file_of.Goals as goal
+use Rattle.record_dump.proofs.bytes_dump.records_of.Goals as goal
 
 pub returns-in-Err-Damaged-default-clause-damaged : goal.returns-in-Err-Damaged-default-clause-damaged
 returns-in-Err-Damaged-default-clause-damaged c =
