@@ -4,8 +4,8 @@ use Rattle.std.specs.List.{AllByRecursion, slice_split}
 use Rattle.std.specs.Str.{IsUtf8}
 use Rattle.std.specs.Str.Lines.{lines}
 use Rattle.std.specs.Str.Parse.{digits_value}
-use Rattle.world_streams.specs.declared.setup.Setup.{Setup}
-use Rattle.world_streams.specs.Limits.{IsWithinLimits}
+use Rattle.world_setup.specs.declared.setup.Setup.{Setup}
+use Rattle.world_setup.specs.Limits.{IsWithinLimits}
 use Rattle.model_partition.specs.Cluster.{first_cluster}
 use Rattle.script_lines.specs.declared.line.Line.{Line}
 use Rattle.script_lines.specs.declared.line.Line.TheVariants.{Show}

@@ -1,4 +1,4 @@
-//! Each actor in a struct of its own, and that struct behind a lock.
+//! Each actor in a struct of its own, and that struct behind a lock; and whether it has stopped.
 use std::sync::{Mutex, Wait};
 use std::test::*;
 use std::thread::{Threads, join};
@@ -34,7 +34,10 @@ fn syncs<T: Sync>(_value: &T) {}
 
 #[test]
 fn node(rt: HostRuntime) -> Result<(), Fail> {
-    let actor = NodeActor::start(rt.alloc(), 1)?;
+    let mut actor = NodeActor::start(rt.alloc(), 1)?;
+    assert!(rt; !actor.is_stopped());
+    actor.stop(0, false);
+    assert!(rt; actor.is_stopped());
     let cell = NodeCell { actor };
     sends(&cell);
     syncs(&cell);
@@ -46,7 +49,10 @@ fn node(rt: HostRuntime) -> Result<(), Fail> {
 
 #[test]
 fn manager(rt: HostRuntime) -> Result<(), Fail> {
-    let actor = ManagerActor::start(rt.alloc(), 3, 4096)?;
+    let mut actor = ManagerActor::start(rt.alloc(), 3, 4096)?;
+    assert!(rt; !actor.is_stopped());
+    actor.stop(0, false);
+    assert!(rt; actor.is_stopped());
     let cell = ManagerCell { actor };
     sends(&cell);
     syncs(&cell);
@@ -58,7 +64,10 @@ fn manager(rt: HostRuntime) -> Result<(), Fail> {
 
 #[test]
 fn map(rt: HostRuntime) -> Result<(), Fail> {
-    let actor = MapActor::start(rt.alloc())?;
+    let mut actor = MapActor::start(rt.alloc())?;
+    assert!(rt; !actor.is_stopped());
+    actor.stop(0, false);
+    assert!(rt; actor.is_stopped());
     let cell = MapCell { actor };
     sends(&cell);
     syncs(&cell);
@@ -82,9 +91,13 @@ fn show_moments<R: Threads + Wait + Sync>(rt: &R, server: &Mutex<ServerCell>) {
 
 #[test]
 fn server(rt: HostRuntime) -> Result<(), Fail> {
-    let cell = ServerCell {
-        actor: ServerActor::start(rt.alloc(), ServerNo(1), 16),
-    };
+    let mut actor = ServerActor::start(rt.alloc(), ServerNo(1), 16);
+    assert!(rt; !actor.is_stopped());
+    actor.stop(0);
+    assert!(rt; actor.is_stopped());
+    actor.restart(rt.alloc());
+    assert!(rt; !actor.is_stopped());
+    let cell = ServerCell { actor };
     sends(&cell);
     syncs(&cell);
     let lock = Mutex::new(cell);

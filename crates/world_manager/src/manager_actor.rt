@@ -205,4 +205,11 @@ impl ManagerActor {
     {
         restart(&mut self.manager, alloc)
     }
+
+    /// Whether it has stopped. Then nothing comes of a packet or a decision until it is restarted.
+    pub fn is_stopped(&self) -> bool
+        ensures { result ≡ self.now.stopped }
+    {
+        self.manager.is_stopped()
+    }
 }

@@ -210,6 +210,13 @@ impl MapActor {
         }
     }
 
+    /// Whether it has stopped. Then nothing comes of a packet, an assignment or a renewal until it is restarted.
+    pub fn is_stopped(&self) -> bool
+        ensures { result ≡ self.now.stopped }
+    {
+        self.map.is_stopped()
+    }
+
     /// The clock of leases shows this. A moment that goes back changes nothing.
     pub fn moment(&mut self, now: u64)
         ensures { self.new ≡ moment_shown now self.old }

@@ -167,6 +167,13 @@ impl NodeActor {
         restart(&mut self.node, alloc)
     }
 
+    /// Whether it has stopped. Then nothing comes of a packet until it is restarted.
+    pub fn is_stopped(&self) -> bool
+        ensures { result ≡ self.now.stopped }
+    {
+        self.node.is_stopped()
+    }
+
     /// The node itself, to look at; none where it has stopped.
     pub fn node(&self) -> Option<&Node<MemDisk>>
         ensures { option_map (λ node. seen_of node.now) result ≡ if_running (Some self.now) }

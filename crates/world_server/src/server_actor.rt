@@ -1,5 +1,5 @@
 //! One server, over its starts and stops.
-ghost use Rattle.std.specs.Prelude.{◌≡◌, [], None, option_map, IfOk, OnErr};
+ghost use Rattle.std.specs.Prelude.{◌≡◌, [], None, is_none, option_map, IfOk, OnErr};
 ghost use Rattle.model_partition.specs.Servers.{cell_checkpoints, cell_gives_up, cell_merges, cell_splits, cell_stops, cell_starts, cell_takes, checkpoint_fault_of, give_up_fault, cell_loads, merge_fault_of, split_fault_of, table_of_view};
 ghost use Rattle.world_server.specs.Seen.{cell_outcome, moment_shown, new_server};
 ghost use Rattle.world_steps.specs.ActorStep.{IsFew, table_step};
@@ -239,6 +239,13 @@ impl ServerActor {
                 self.batch,
             ));
         }
+    }
+
+    /// Whether it has stopped. Then nothing comes of a packet or of what it is told to do until it is restarted.
+    pub fn is_stopped(&self) -> bool
+        ensures { result ≡ is_none self.now.cell.state }
+    {
+        self.server.is_none()
     }
 
     /// The clock of leases shows this. A moment that goes back changes nothing.

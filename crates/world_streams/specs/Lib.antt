@@ -1,4 +1,3 @@
-pub mod Limits
 pub mod Nodes
 pub mod StreamLayer
 pub mod ServersStep

@@ -2,45 +2,16 @@
 ghost use Rattle.std.specs.Prelude.{◌≡◌, ◌==◌};
 ghost use Rattle.std.specs.List.{list_all};
 ghost use Rattle.model_streams.specs.RecordBytes.{kind_number};
-ghost use Rattle.model_streams.specs.StreamSystem.{are_of_one_kind, is_append, is_check, is_read, is_seal, is_server_call, is_server_stream_call};
+ghost use Rattle.model_streams.specs.StreamSystem.{are_of_one_kind, is_check, is_server_call, is_server_stream_call};
 
-use wire::{
-    AppendBody, Body, CheckBody, Modify, ReadBody, SealBody, Source, StreamBody, StreamKind,
-};
-
-pub(crate) fn is_append(body: &AppendBody) -> bool
-    ensures { result ≡ is_append body.now }
-{
-    match body {
-        AppendBody::Append { .. } => true,
-        _ => false,
-    }
-}
+use wire::{Body, CheckBody, Modify, Source, StreamBody, StreamKind};
+use world_copies::{is_append, is_read, is_seal};
 
 fn is_check(body: &CheckBody) -> bool
     ensures { result ≡ is_check body.now }
 {
     match body {
         CheckBody::Check { .. } => true,
-        _ => false,
-    }
-}
-
-pub(crate) fn is_seal(body: &SealBody) -> bool
-    ensures { result ≡ is_seal body.now }
-{
-    match body {
-        SealBody::SealExtent { .. } => true,
-        _ => false,
-    }
-}
-
-pub(crate) fn is_read(body: &ReadBody) -> bool
-    ensures { result ≡ is_read body.now }
-{
-    match body {
-        ReadBody::ReadAt { .. } => true,
-        ReadBody::ReadGroups { .. } => true,
         _ => false,
     }
 }

@@ -12,11 +12,9 @@ mod fault;
 mod nodes;
 mod observations;
 mod post;
-mod setup;
 mod showing;
 mod stream_layer;
-mod submitting;
 
 pub use fault::WorldFault;
-pub use setup::Setup;
 pub use stream_layer::StreamLayer;
+pub use world_setup::Setup;

@@ -22,9 +22,7 @@ use crate::fault::WorldFault;
 use crate::nodes::NodeList;
 use crate::observations::Observations;
 use crate::post::{make_room, move_in, move_over};
-use crate::setup::Setup;
 use crate::showing::{Given, give, show};
-use crate::submitting::{is_request, request};
 use block_types::Nodes;
 use bytes::Bytes;
 use disk::MemDisk;
@@ -33,10 +31,12 @@ use model_streams::Event;
 use std::alloc::Global;
 use std::marker::Model;
 use wire::{ActorId, Body, ExtentId, Note, Packet, RangeId, Refusal, Rows, ServerNo, Step};
+use world_copies::{is_request, request};
 use world_manager::ManagerActor;
 use world_map::MapActor;
 use world_nodes::empty;
 use world_servers::Servers;
+use world_setup::Setup;
 use world_steps::ActorStep;
 
 /// Real extent nodes and the stream manager on disks in memory, all packets that were sent, numbered from 0, and all

@@ -3,9 +3,39 @@ ghost use Rattle.std.specs.Prelude.{◌≡◌, Some, None, IfOk, if◌then◌els
 ghost use Rattle.wire.specs.declared.body.Body.TheVariants as bodies;
 ghost use Rattle.model_streams.specs.StreamSystem.{is_request, is_append, is_seal, is_read, is_stream_call, is_route, is_table_call};
 
-use crate::calls::{is_append, is_read, is_seal};
 use std::alloc::{AllocError, Global};
 use wire::{AppendBody, Body, MapBody, ReadBody, SealBody, StreamBody, TableBody};
+
+/// Whether it asks for an append, as clients do of a primary.
+pub fn is_append(body: &AppendBody) -> bool
+    ensures { result ≡ is_append body.now }
+{
+    match body {
+        AppendBody::Append { .. } => true,
+        _ => false,
+    }
+}
+
+/// Whether it asks for an extent to be sealed.
+pub fn is_seal(body: &SealBody) -> bool
+    ensures { result ≡ is_seal body.now }
+{
+    match body {
+        SealBody::SealExtent { .. } => true,
+        _ => false,
+    }
+}
+
+/// Whether it asks for groups or for bytes of an extent.
+pub fn is_read(body: &ReadBody) -> bool
+    ensures { result ≡ is_read body.now }
+{
+    match body {
+        ReadBody::ReadAt { .. } => true,
+        ReadBody::ReadGroups { .. } => true,
+        _ => false,
+    }
+}
 
 fn is_stream_call(body: &StreamBody) -> bool
     ensures { result ≡ is_stream_call body.now }
@@ -37,7 +67,7 @@ fn is_table_call(body: &TableBody) -> bool
 }
 
 /// Whether a user may ask this.
-pub(crate) fn is_request(body: &Body) -> bool
+pub fn is_request(body: &Body) -> bool
     ensures { result ≡ is_request body.now }
 {
     match body {
@@ -193,7 +223,7 @@ fn table_call(body: &TableBody) -> Result<Option<Body>, AllocError>
 }
 
 /// The same request again, which shares the payload bytes, where users may ask it.
-pub(crate) fn request(alloc: Global, body: &Body) -> Result<Option<Body>, AllocError>
+pub fn request(alloc: Global, body: &Body) -> Result<Option<Body>, AllocError>
     ensures { IfOk result (λ copy. copy ≡ (if is_request body.now then Some body.now else None)) }
 {
     match body {

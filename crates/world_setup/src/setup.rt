@@ -1,6 +1,6 @@
 //! How large a run is.
 ghost use Rattle.std.specs.Prelude.{◌≡◌, ◌↔◌, IsSome, IfSome};
-ghost use Rattle.world_streams.specs.Limits.{IsWithinLimits};
+ghost use Rattle.world_setup.specs.Limits.{IsWithinLimits};
 
 use block_types::{MAX_NODE, MAX_TARGET, MIN_TARGET};
 use memtable::MAX_BATCH;
