@@ -1,0 +1,39 @@
+//! A mark with its value.
+ghost use Rattle.std.specs.Prelude.{◌≡◌};
+
+use crate::mark::Mark;
+use boxcar::Pushed;
+use boxcar::slot::Written;
+use std::marker::Model;
+use std::snapshot::Snapshot;
+
+/// A mark, and what shows the value in its slot.
+#[derive(Drop)]
+pub struct Token<D, V> {
+    pub(crate) mark: Pushed<Mark<D, V>>,
+    pub(crate) written: Written<Snapshot<V>>,
+}
+
+impl<D, V> Model for Token<D, V> {
+    ghost use Rattle.std.specs.Prelude.{◌≡◌};
+    ghost use Rattle.stamp_marks.specs.Tokens as specs;
+
+    ghost Value = { specs.Token D V };
+
+    ghost view = { λ t. record { mark = t.mark; value = t.written.value.value } };
+
+    ghost invariant = { λ t. t.written.of ≡ t.mark.value.slot.id };
+}
+
+/// The same token, if there is one; takes no memory.
+pub fn copy_of<D, V>(token: &Option<Token<D, V>>) -> Option<Token<D, V>>
+    ensures { result ≡ token.now }
+{
+    match token {
+        None => None,
+        Some(token) => Some(Token {
+            mark: token.mark.again(),
+            written: token.written.again(),
+        }),
+    }
+}
