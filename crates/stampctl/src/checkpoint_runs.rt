@@ -1,30 +1,35 @@
 //! A server that makes a checkpoint, over real nodes and the real manager: what is appended, sealed and read, and what a load
 //! after it shows. The values that are wanted were worked out by hand from the formats.
+use crate::page_rows::{Shown, are_rows, rows_after};
 use crate::requests::PLACES;
 use crate::runs::{Run, decides, settles, started};
 use Observed::{Acked, Seals, Sees};
-use Step::{Assigns, Checkpoints, Combines, Commits, Decides, Finds, Refuses, StartsAgain};
+use Step::{
+    Appends, Assigns, Checkpoints, Combines, Commits, Decides, Finds, Misses, Refuses, Shows,
+    StartsAgain,
+};
 use block_types::Group;
 use bytes::Bytes;
 use model_partition::TableNote;
 use range::{RangeFault, RangeServer, Sent};
 use std::alloc::{AllocError, Global};
 use wire::{
-    ActorId, Body, Change, Changes, ExtentId, Fence, MapBody, Note, Packet, RangeId, ReqNo,
-    ServerNo, TableBody,
+    ActorId, AppendBody, Blocks, Body, Change, Changes, ExtentId, Fence, MapBody, Note, Packet,
+    RangeId, ReqNo, Rows, ServerNo, TableBody,
 };
 use world_streams::StreamLayer;
 
 /// What is observed of extents: the extent, an offset and a length in bytes.
 #[derive(Clone, Copy, PartialEq, Eq)]
-enum Observed {
+pub(crate) enum Observed {
     Acked(u64, u32, usize),
     Seals(u64, u32),
     Sees(u64, u32, usize),
 }
 
 /// What happens at the server of range 1, after which all that it sends comes, and what is wanted of it.
-enum Step {
+#[derive(Drop)]
+pub(crate) enum Step {
     /// The map assigns the range under this generation.
     Assigns(u64),
     /// A user sets a key to so many bytes of a letter.
@@ -41,6 +46,12 @@ enum Step {
     StartsAgain(u64),
     /// A user reads a key: so many bytes of a letter.
     Finds(&'static [u8], usize, u8),
+    /// A user reads a key, which has no value.
+    Misses(&'static [u8]),
+    /// These blocks are appended to an extent under generation 1, though the server's rules send no such thing.
+    Appends(u64, &'static [&'static [u8]]),
+    /// The last load showed these rows.
+    Shows(&'static [Shown]),
 }
 
 /// What a case shows, its steps, what is observed, and each number that a load shows to be the next.
@@ -184,13 +195,14 @@ const CASES: &[Case] = &[
     ),
 ];
 
-/// A server over a stream layer, what users were told, and the next number that each load showed.
+/// A server over a stream layer, what users were told, the next number that each load showed, and the rows.
 #[derive(Drop)]
-struct Stand {
+pub(crate) struct Stand {
     run: Run,
     server: RangeServer,
     told: Vec<Packet>,
     loads: Vec<u64>,
+    rows: Vec<Rows>,
 }
 
 const SERVER: ServerNo = ServerNo(1);
@@ -248,9 +260,25 @@ fn send(stand: &mut Stand, packet: Packet) -> bool {
     }
 }
 
-/// What a server makes of the packets to it from one on: its packets and observations, one after another.
+/// The rows of the table that an answer is about to show, if there is one.
+fn note_rows(
+    rows: &mut Vec<Rows>,
+    server: &RangeServer,
+    alloc: Global,
+    layer: &StreamLayer,
+    packet: &Packet,
+) -> Result<(), AllocError> {
+    if let Some(table) = server.loading(&packet.body) {
+        rows.push(rows_after(alloc, layer.observations(), &table)?)?;
+    }
+    Ok(())
+}
+
+/// What a server makes of the packets to it from one on: its packets and observations, one after another. The rows of what it loads
+/// are noted before.
 fn take_answers(
     server: &mut RangeServer,
+    rows: &mut Vec<Rows>,
     alloc: Global,
     layer: &StreamLayer,
     from: usize,
@@ -258,6 +286,7 @@ fn take_answers(
     let mut all = Sent::nothing(alloc);
     for packet in layer.sent().iter().skip(from) {
         if packet.to == ActorId::Server(SERVER) {
+            note_rows(rows, server, alloc, layer, packet)?;
             let Sent {
                 mut packets,
                 mut notes,
@@ -269,6 +298,12 @@ fn take_answers(
     Ok(all)
 }
 
+/// What the server makes of the packets to it from one on.
+fn answers(alloc: Global, stand: &mut Stand, from: usize) -> Result<Sent, AllocError> {
+    let layer = &stand.run.stream_layer;
+    take_answers(&mut stand.server, &mut stand.rows, alloc, layer, from)
+}
+
 /// All that is sent comes, and what comes of it, until nothing follows.
 fn follows(alloc: Global, stand: &mut Stand, sent: Sent) -> bool {
     let mut sent = sent;
@@ -277,7 +312,7 @@ fn follows(alloc: Global, stand: &mut Stand, sent: Sent) -> bool {
         if !send_all(alloc, stand, sent) {
             return false;
         }
-        match take_answers(&mut stand.server, alloc, &stand.run.stream_layer, before) {
+        match answers(alloc, stand, before) {
             Ok(next) => sent = next,
             Err(_full) => return false,
         }
@@ -349,12 +384,69 @@ fn is_value(packet: &Packet, count: usize, letter: u8) -> bool {
     }
 }
 
+/// A user reads a key: whether the user is told something.
+fn reads(alloc: Global, stand: &mut Stand, key: &[u8]) -> bool {
+    let before = stand.told.len();
+    asks(alloc, stand, question(alloc, key)) && stand.told.len() > before
+}
+
 fn finds(alloc: Global, stand: &mut Stand, key: &[u8], count: usize, letter: u8) -> bool {
-    asks(alloc, stand, question(alloc, key))
+    reads(alloc, stand, key)
         && match stand.told.last() {
             Some(packet) => is_value(packet, count, letter),
             None => false,
         }
+}
+
+fn is_no_value(packet: &Packet) -> bool {
+    match &packet.body {
+        Body::Table(TableBody::Value { value: None, .. }) => true,
+        _ => false,
+    }
+}
+
+fn misses(alloc: Global, stand: &mut Stand, key: &[u8]) -> bool {
+    reads(alloc, stand, key)
+        && match stand.told.last() {
+            Some(packet) => is_no_value(packet),
+            None => false,
+        }
+}
+
+fn blocks_of(alloc: Global, texts: &[&'static [u8]]) -> Result<Blocks, AllocError> {
+    let mut blocks = Vec::new(alloc);
+    for text in texts {
+        blocks.push(Bytes::from_static(text))?;
+    }
+    Blocks::of(blocks)
+}
+
+fn append(alloc: Global, extent: u64, texts: &[&'static [u8]]) -> Result<Body, AllocError> {
+    Ok(Body::Append(AppendBody::Append {
+        extent: ExtentId(extent),
+        generation: Fence(1),
+        blocks: blocks_of(alloc, texts)?,
+        request: request(0),
+    }))
+}
+
+/// The blocks are appended, and the server is not told.
+fn appends(alloc: Global, stand: &mut Stand, extent: u64, texts: &[&'static [u8]]) -> bool {
+    let primary = ActorId::Node(PLACES.primary);
+    match append(alloc, extent, texts) {
+        Ok(body) => {
+            stand.run.stream_layer.ask(SERVER, primary, body).is_ok()
+                && settles(alloc, &mut stand.run, &[])
+        }
+        Err(_full) => false,
+    }
+}
+
+fn shows(rows: &[Rows], wanted: &[Shown]) -> bool {
+    match rows.last() {
+        Some(last) => are_rows(&last.items, wanted),
+        None => false,
+    }
 }
 
 fn checkpoints(alloc: Global, stand: &mut Stand, combine: bool) -> bool {
@@ -370,7 +462,7 @@ fn is_sealed(alloc: Global, stand: &mut Stand, extent: u64) -> bool {
     if !decides(alloc, &mut stand.run, extent, None) || !settles(alloc, &mut stand.run, &[]) {
         return false;
     }
-    match take_answers(&mut stand.server, alloc, &stand.run.stream_layer, before) {
+    match answers(alloc, stand, before) {
         Ok(sent) => follows(alloc, stand, sent),
         Err(_full) => false,
     }
@@ -398,6 +490,9 @@ fn takes(alloc: Global, stand: &mut Stand, step: &Step) -> bool {
             true
         }
         Finds(key, count, letter) => finds(alloc, stand, key, *count, *letter),
+        Misses(key) => misses(alloc, stand, key),
+        Appends(extent, texts) => appends(alloc, stand, *extent, texts),
+        Shows(wanted) => shows(&stand.rows, wanted),
     }
 }
 
@@ -435,31 +530,55 @@ fn seen_of(note: &Note) -> Option<Observed> {
     }
 }
 
-fn are_observed(notes: &[Note], wanted: &[Observed]) -> bool {
-    notes.len() == wanted.len()
+/// Whether this is what was observed after so many observations.
+fn are_observed(notes: &[Note], from: usize, wanted: &[Observed]) -> bool {
+    notes.len().saturating_sub(from) == wanted.len()
         && notes
             .iter()
+            .skip(from)
             .zip(wanted)
             .all(|(note, one)| seen_of(note) == Some(*one))
 }
 
-/// Whether the steps of a case go as it says, over a new stream layer.
-fn holds(alloc: Global, steps: &[Step], wanted: &[Observed], loads: &[u64]) -> bool {
-    let Some(run) = started(alloc) else {
-        return false;
-    };
-    let mut stand = Stand {
+/// A server over a new stream layer.
+pub(crate) fn begun(alloc: Global) -> Option<Stand> {
+    let run = started(alloc)?;
+    Some(Stand {
         run,
         server: server_of(alloc, 1),
         told: Vec::new(alloc),
         loads: Vec::new(alloc),
-    };
+        rows: Vec::new(alloc),
+    })
+}
+
+/// Whether the steps go as they say, and this is observed after so many observations.
+pub(crate) fn goes(
+    alloc: Global,
+    stand: &mut Stand,
+    steps: &[Step],
+    from: usize,
+    wanted: &[Observed],
+) -> bool {
     for step in steps {
-        if !takes(alloc, &mut stand, step) {
+        if !takes(alloc, stand, step) {
             return false;
         }
     }
-    are_observed(stand.run.stream_layer.observations(), wanted) && stand.loads.as_slice() == loads
+    are_observed(stand.run.stream_layer.observations(), from, wanted)
+}
+
+/// Whether the loads showed these next numbers.
+pub(crate) fn has_loads(stand: &Stand, loads: &[u64]) -> bool {
+    stand.loads.as_slice() == loads
+}
+
+/// Whether a case goes as it says.
+fn holds(alloc: Global, steps: &[Step], wanted: &[Observed], loads: &[u64]) -> bool {
+    match begun(alloc) {
+        None => false,
+        Some(mut stand) => { goes(alloc, &mut stand, steps, 0, wanted) && has_loads(&stand, loads) }
+    }
 }
 
 #[test]

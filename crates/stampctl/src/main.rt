@@ -103,6 +103,8 @@ mod stops;
 #[cfg(test)]
 mod threads;
 #[cfg(test)]
+mod unordered_pages;
+#[cfg(test)]
 mod words_read;
 
 use stampctl_tasks::perform;
