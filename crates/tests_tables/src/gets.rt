@@ -48,6 +48,8 @@ pub(crate) enum Sent {
 pub(crate) enum Step {
     /// The lease ends at this moment, and no more at 9.
     LeaseEnds(u64),
+    /// The range takes this from now on.
+    Takes(Pause),
     /// It is called where the server's next request has the first number, which has the second then, and sends this.
     Does(u32, Call, u64, Sent),
     /// How many Gets wait.
@@ -159,6 +161,88 @@ const CASES: &[Case<Step>] = &[
             Step::Waits(0),
         ]],
     ),
+    (
+        "a Get that waits for a page is refused once the lease has ended",
+        &[&[
+            READS_PAGE,
+            Step::LeaseEnds(5),
+            Step::Does(
+                20,
+                Call::Page(4, PAGE),
+                20,
+                Sent::Refusal(Refusal::LeaseEnded),
+            ),
+            Step::Waits(0),
+        ]],
+    ),
+    (
+        "a Get that waits for a value is refused once the lease has ended",
+        &[&[
+            READS,
+            Step::LeaseEnds(5),
+            Step::Does(20, Call::Bytes(4), 20, Sent::Refusal(Refusal::LeaseEnded)),
+            Step::Waits(0),
+        ]],
+    ),
+    (
+        "a Get that waits is answered until the lease ends",
+        &[&[
+            READS,
+            Step::LeaseEnds(6),
+            Step::Does(20, Call::Bytes(4), 20, Sent::Value(5_000)),
+        ]],
+    ),
+    (
+        "a Get that waits for a page is refused while the range is paused",
+        &[&[
+            READS_PAGE,
+            Step::Takes(Pause::On),
+            Step::Does(20, Call::Page(4, PAGE), 20, Sent::Refusal(Refusal::Paused)),
+            Step::Waits(0),
+        ]],
+    ),
+    (
+        "a Get that waits for a value is refused while the range is paused",
+        &[&[
+            READS,
+            Step::Takes(Pause::On),
+            Step::Does(20, Call::Bytes(4), 20, Sent::Refusal(Refusal::Paused)),
+            Step::Waits(0),
+        ]],
+    ),
+    (
+        "a Get that waits is answered where transactions alone are refused, and where the range takes all again",
+        &[&[
+            READS_PAGE,
+            Step::Takes(Pause::AfterQueue),
+            Step::Does(20, Call::Page(4, PAGE), 20, Sent::Value(1)),
+            READS,
+            Step::Takes(Pause::On),
+            Step::Takes(Pause::Off),
+            Step::Does(20, Call::Bytes(4), 20, Sent::Value(5_000)),
+        ]],
+    ),
+    (
+        "a pause is told before the end of a lease",
+        &[&[
+            READS_PAGE,
+            Step::LeaseEnds(5),
+            Step::Takes(Pause::On),
+            Step::Does(20, Call::Page(4, PAGE), 20, Sent::Refusal(Refusal::Paused)),
+            Step::Does(4, Call::Get(b"a"), 4, Sent::Refusal(Refusal::Paused)),
+        ]],
+    ),
+    (
+        "bytes that spell no page have nobody refused",
+        &[&[
+            READS_PAGE,
+            Step::LeaseEnds(5),
+            Step::Takes(Pause::On),
+            Step::Does(20, Call::Page(4, NO_PAGE), 20, Sent::Nothing),
+            Step::Awaits(4, true),
+            Step::Waits(1),
+        ]],
+    ),
 ];
 
 /// The place of the value at `b`.
@@ -191,6 +275,7 @@ struct Getting {
     lookups: Lookups,
     /// The moment when the lease ends.
     until: u64,
+    pause: Pause,
 }
 
 fn put(alloc: Global, table: &mut MemTable, key: &'static [u8; 1], cell: Cell) -> Result<(), Fail>
@@ -262,6 +347,7 @@ fn begun(alloc: Global) -> Result<Getting, Fail> {
         indexes,
         lookups,
         until: 9,
+        pause: Pause::Off,
     })
 }
 
@@ -360,7 +446,7 @@ fn called(
         range: RangeId(4),
         generation: Fence(6),
         until: getting.until,
-        pause: Pause::Off,
+        pause: getting.pause,
         table: &getting.table,
         log: &log,
         blob: &[],
@@ -473,6 +559,10 @@ impl Tested for Getting {
         match step {
             Step::LeaseEnds(until) => {
                 self.until = *until;
+                Ok(true)
+            }
+            Step::Takes(pause) => {
+                self.pause = *pause;
                 Ok(true)
             }
             Step::Does(count, call, next, sent) => does(alloc, self, *count, call, *next, sent),

@@ -31,3 +31,5 @@ mod replays;
 mod splits;
 #[cfg(test)]
 mod strangers;
+#[cfg(test)]
+mod waiting_gets;
