@@ -23,8 +23,7 @@ invariant_of-self g c =
     let v = c.step.invariant in
     let s : CellStep g.row.A.Denot g.row.E.Denot g.row.R.Denot = record { number = i.number; event = i.event; reply = i.reply; before = shown_by i.before; index = index_of i.before; was = state_after (first i.number) (shown_by i.before); state = i.state.value } in
     let found = rw c.as_slice.ensures.value at (c.is_token_at-is_found.ensures c.if-not-is_found.false) in
-    let seen = rw c.as_slice-3.ensures.value at (c.is_token_at-has_seen.ensures c.if-not-has_seen.false) in
-    (
+    let seen = rw c.as_slice-3.ensures.value at (c.is_token_at-has_seen.ensures c.if-not-has_seen.false) in (
       rw (c.push_reserved.ensures.items, c.one.ensures, c.of.ensures, c.of-2.ensures) (legal-append g.A.Actor.goes first g.K.Identity.events c.pass.inside.number c.self.inside.entries.items c.self.inside.actors.items s found.there i.after
           c.self.invariant.0 found.found (same_shown i.before found.there found.same) refl v.1 v.2 v.3),
       rw (c.push_reserved.ensures.items, c.copy_of.ensures) (passes-append g.K.Identity.prefixes c.self.inside.entries.items c.self.inside.passes.items _ (Some c.in-Some.seen)
