@@ -1,0 +1,4 @@
+mod Lists
+mod Legal
+mod Passes
+mod Counts

@@ -1,0 +1,21 @@
+use Rattle.std.proofs.Common.{◌≡◌, None, Some, inl, inr, sym, arith}
+use Rattle.std.proofs.lemmas.Option.{none-some}
+use Rattle.stamp_traces.proofs.Lists.{get_snoc}
+use Rattle.stamp_traces.proofs.Legal.{legal-none}
+use Rattle.stamp_traces.proofs.Passes.{passes-none}
+use Rattle.stamp_traces.proofs.journal.Journal.new.Goals as goal
+
+pub loop-i-preserved : goal.loop-i-preserved
+loop-i-preserved g c = record {
+  tokens = λ n t at. elim (get_snoc c.loop-i.tokens.items None n t (rw c.in_ok-push.ensures.items at at)) as (λ _. t ≡ None) [ inl h ↦ c.loop-i.invariant.tokens n t h.1 | inr h ↦ h.1 ];
+  bookings = λ n p at. elim (get_snoc c.loop-i.bookings.items None n p (rw c.in_ok-push-2.ensures.items at at)) as (λ _. p ≡ None) [ inl h ↦ c.loop-i.invariant.bookings n p h.1 | inr h ↦ h.1 ];
+}
+
+pub invariant_of-result : goal.invariant_of-result
+invariant_of-result g c = (
+  rw c.in_ok-entries.ensures.items (legal-none g.A.Actor.goes (g.A.Actor.first g.K.Identity.numbers) g.K.Identity.events c.loop-i.tokens.items c.loop-i.invariant.tokens),
+  rw (c.in_ok-entries.ensures.items, c.new.ensures.items) (passes-none g.K.Identity.prefixes),
+  record { each = λ n p at. absurd (none-some p (sym (c.loop-i.invariant.bookings n (Some p) at))) },
+  omega (arith, c.in_ok-entries.ensures.len),
+  c.in_ok-entries.ensures.capacity,
+)

@@ -1,0 +1,4 @@
+pub mod Cells
+pub mod Passes
+pub mod Shown
+pub mod Traces

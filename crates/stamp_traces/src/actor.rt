@@ -1,0 +1,19 @@
+//! What an actor is.
+ghost use Rattle.std.specs.Prelude.{◌≡◌, ℕ, List, IfOk, OnErr};
+
+use crate::fault::TraceFault;
+use std::alloc::Global;
+
+/// An actor, whose steps are as a relation says.
+pub trait Actor<E, R>: Drop {
+    /// The actor before any event, by the numbers of the setup and its own.
+    ghost first: { List ℕ → ℕ → Self };
+
+    /// From the state before an event to the state after it, with the reply.
+    ghost goes: { Self → E → Self → R → Type 0 };
+
+    /// Takes an event, or refuses it, and then is as it was.
+    fn step(&mut self, alloc: Global, event: &E) -> Result<R, TraceFault>
+        ensures ok { IfOk result (λ r. goes self.old event.now self.new r) }
+        ensures err { OnErr result (self.new ≡ self.old) };
+}
