@@ -56,50 +56,92 @@ fn dumps_the_same_in_both_versions(rt: HostRuntime) -> Result<(), Fail> {
     Ok(())
 }
 
+/// What the file and the new one have, where they are there.
+struct Files {
+    file: Option<&'static [u8]>,
+    new: Option<&'static [u8]>,
+}
+
 /// What the two files have before a call, its status, and what they have after it.
 struct Case {
     about: &'static str,
-    before: [Option<&'static [u8]>; 2],
+    before: Files,
     status: ExitCode,
-    after: [Option<&'static [u8]>; 2],
+    after: Files,
 }
 
 const CASES: &[Case] = &[
     Case {
         about: "two records of version 1",
-        before: [Some(OLD), None],
+        before: Files {
+            file: Some(OLD),
+            new: None,
+        },
         status: ExitCode::SUCCESS,
-        after: [Some(OLD), Some(NEW)],
+        after: Files {
+            file: Some(OLD),
+            new: Some(NEW),
+        },
     },
     Case {
         about: "two records of version 2",
-        before: [Some(NEW), None],
+        before: Files {
+            file: Some(NEW),
+            new: None,
+        },
         status: ExitCode::SUCCESS,
-        after: [Some(NEW), Some(NEW)],
+        after: Files {
+            file: Some(NEW),
+            new: Some(NEW),
+        },
     },
     Case {
         about: "no record",
-        before: [Some(b"XRF1\0"), None],
+        before: Files {
+            file: Some(b"XRF1\0"),
+            new: None,
+        },
         status: ExitCode::SUCCESS,
-        after: [Some(b"XRF1\0"), Some(b"XRF2\0")],
+        after: Files {
+            file: Some(b"XRF1\0"),
+            new: Some(b"XRF2\0"),
+        },
     },
     Case {
         about: "the new file is there",
-        before: [Some(OLD), Some(b"there")],
+        before: Files {
+            file: Some(OLD),
+            new: Some(b"there"),
+        },
         status: ExitCode::FAILURE,
-        after: [Some(OLD), Some(b"there")],
+        after: Files {
+            file: Some(OLD),
+            new: Some(b"there"),
+        },
     },
     Case {
         about: "no file",
-        before: [None, None],
+        before: Files {
+            file: None,
+            new: None,
+        },
         status: ExitCode::FAILURE,
-        after: [None, None],
+        after: Files {
+            file: None,
+            new: None,
+        },
     },
     Case {
         about: "a damaged file",
-        before: [Some(b"XRF1\x01\0"), None],
+        before: Files {
+            file: Some(b"XRF1\x01\0"),
+            new: None,
+        },
         status: ExitCode::FAILURE,
-        after: [Some(b"XRF1\x01\0"), None],
+        after: Files {
+            file: Some(b"XRF1\x01\0"),
+            new: None,
+        },
     },
 ];
 
@@ -109,10 +151,10 @@ const NEW_PATH: &str = "migrated.new";
 
 /// Whether a call ends as wanted.
 fn ends(rt: &HostRuntime, case: &Case) -> Result<bool, Fail> {
-    put(rt, PATH, case.before[0])?;
-    put(rt, NEW_PATH, case.before[1])?;
+    put(rt, PATH, case.before.file)?;
+    put(rt, NEW_PATH, case.before.new)?;
     let status = migrated(rt, PATH, NEW_PATH);
-    Ok(status == case.status && has(rt, PATH, case.after[0]) && has(rt, NEW_PATH, case.after[1]))
+    Ok(status == case.status && has(rt, PATH, case.after.file) && has(rt, NEW_PATH, case.after.new))
 }
 
 #[test]
