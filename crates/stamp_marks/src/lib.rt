@@ -25,7 +25,7 @@ pub use identity::Identity;
 pub use mark::{AnyValue, Mark};
 pub use mark_list::MarkList;
 pub use marks::Marks;
-pub use prefix::{Prefix, prefix_of};
+pub use prefix::{Prefix, prefix_of, whole_of};
 pub use token::{Token, copy_of};
 
 #[cfg(test)]

@@ -94,11 +94,12 @@ impl<D, V> MarkList<D, V> {
         }
     }
 
-    /// Whether the token is of the mark that was booked at this place. Then both are about one subject. Takes no memory.
+    /// Whether the token is of the mark that was booked at this place. Then both have one index, and are about one subject. Takes
+    /// no memory.
     pub fn is_from(&self, token: &Token<D, V>, place: &Pushed<Mark<D, V>>) -> bool
         requires token { Shows self.now token.now.mark }
         requires place { Shows self.now place.now }
-        ensures { MatchBool result (token.now.mark.value.subject.value ≡ place.now.value.subject.value) (token.now.mark.index ≢ place.now.index) }
+        ensures { MatchBool result ((token.now.mark.index ≡ place.now.index) × (token.now.mark.value.subject.value ≡ place.now.value.subject.value)) (token.now.mark.index ≢ place.now.index) }
     {
         if token.mark.index() == place.index() {
             self.marks.agrees(&token.mark, place);

@@ -34,3 +34,13 @@ pub fn prefix_of<X>(items: &Vec<X>, next: Option<&X>) -> Snapshot<Prefix<X>>
         next,
     })
 }
+
+/// What stands in a list; takes no memory.
+pub fn whole_of<X>(items: &Vec<X>) -> Snapshot<Prefix<X>>
+    ensures { result.value ≡ items.now.items }
+{
+    Snapshot::of(&Prefix {
+        items: Snapshot::of(items),
+        next: None,
+    })
+}

@@ -1,6 +1,5 @@
 //! Each call once.
-use crate::{Marks, Prefix, copy_of, prefix_of, with_event};
-use std::snapshot::Snapshot;
+use crate::{Marks, copy_of, prefix_of, whole_of, with_event};
 use std::test::Fail;
 
 /// Two events of one actor: the first leaves 10, the second 30.
@@ -35,9 +34,8 @@ fn two_events(rt: HostRuntime) -> Result<(), Fail> {
 fn two_prefixes(rt: HostRuntime) -> Result<(), Fail> {
     let marks: Marks<u64, u64, u64> = Marks::new(rt.alloc())?;
     let items = Vec::from_slice(rt.alloc(), &[5, 6])?;
-    let before: Snapshot<Prefix<u64>> = prefix_of(&items, None);
     let list = &marks.prefixes;
-    let seen = list.fix(list.book(&rt, &0)?, before);
+    let seen = list.fix(list.book(&rt, &0)?, whole_of(&items));
     let more = list.fix(list.book(&rt, &0)?, prefix_of(&items, Some(&7)));
     assert!(rt; seen.is_some() && more.is_some());
     assert!(rt; !list.is_same(&seen, &more));

@@ -25,15 +25,24 @@ impl<D, V> Model for Token<D, V> {
     ghost invariant = { λ t. t.written.of ≡ t.mark.value.slot.id };
 }
 
+impl<D, V> Token<D, V> {
+    /// The same token; takes no memory.
+    pub fn again(&self) -> Token<D, V>
+        ensures { result ≡ self.now }
+    {
+        Token {
+            mark: self.mark.again(),
+            written: self.written.again(),
+        }
+    }
+}
+
 /// The same token, if there is one; takes no memory.
 pub fn copy_of<D, V>(token: &Option<Token<D, V>>) -> Option<Token<D, V>>
     ensures { result ≡ token.now }
 {
     match token {
         None => None,
-        Some(token) => Some(Token {
-            mark: token.mark.again(),
-            written: token.written.again(),
-        }),
+        Some(token) => Some(token.again()),
     }
 }

@@ -2,12 +2,14 @@
 use Rattle.std.proofs.Common.{◌≡◌, ◌≢◌, ◌⊎◌, ◌+◌, ◌<◌, ◌≤◌, ℕ, List, [], ◌∷◌, ◌++◌, set, Some, None, inl, inr, refl, sym, ◌∙◌, ap, subst, arith, append_assoc, append-nil}
 use Rattle.std.specs.Prelude.{◌==◌, ◌&&◌, nat_le, nat_lt, if◌then◌else◌, slice_get, Option}
 use Rattle.std.proofs.lemmas.Bool.Decides.{nat_tests}
-use Rattle.boxcar.specs.Table.{Shelves, Shows}
+use Rattle.std.proofs.lemmas.Option.{none-some}
+use Rattle.boxcar.specs.Table.{Shelves, Shows, Where}
 use Rattle.stamp_marks.specs.Tokens.{Token, value_of}
 use Rattle.stamp_marks.specs.Histories.{state_after}
+use Rattle.stamp_marks.specs.declared.mark.Mark.{Mark}
 use Rattle.stamp_traces.specs.Shown.{shown_by}
 use Rattle.stamp_traces.specs.Cells.{CellStep}
-use Rattle.stamp_traces.specs.Traces.{Entry, taken_by, events_of_actor, entry_by, entry_of, events_in, IsStep, LeadsFrom, LeavesAt, ShowsActor, IsLegal}
+use Rattle.stamp_traces.specs.Traces.{Entry, taken_by, events_of_actor, entry_by, entry_of, note_by, events_in, IsStep, LeadsFrom, LeavesAt, ShowsActor, IsLegal, AreBookings}
 use Rattle.stamp_traces.proofs.Lists.{get_set}
 
 -- two tokens of one value show one list
@@ -26,8 +28,19 @@ module _ {E S : Type 0} where
   events_in-snoc [] e t = refl
   events_in-snoc (x ∷ xs) e t = ap (λ l. x.0 ∷ l) (events_in-snoc xs e t)
 
+module _ {S : Type 0} where
+  -- the states, with one in another's place
+  abbrev pub put : (ℕ → S) → ℕ → S → ℕ → S
+  put t a x n = if n == a then x else t n
+
+  pub put-own : (t : ℕ → S) (a : ℕ) (x : S) → put t a x a ≡ x
+  put-own t a x = grind (arith, nat_tests, put)
+
+  pub put-other : (t : ℕ → S) (a : ℕ) (x : S) (n : ℕ) → n ≢ a → put t a x n ≡ t n
+  put-other t a x n other = grind (arith, nat_tests, put)
+
 module _ {E R : Type 0} where
-  events_of_actor-snoc : (n : ℕ) (xs : List (Entry E R)) (x : Entry E R) → events_of_actor n (xs ++ x ∷ []) ≡ events_of_actor n xs ++ taken_by n x
+  pub events_of_actor-snoc : (n : ℕ) (xs : List (Entry E R)) (x : Entry E R) → events_of_actor n (xs ++ x ∷ []) ≡ events_of_actor n xs ++ taken_by n x
   events_of_actor-snoc n [] x = append-nil (taken_by n x)
   events_of_actor-snoc n (y ∷ ys) x = ap (λ l. taken_by n y ++ l) (events_of_actor-snoc n ys x) ∙ sym (append_assoc (taken_by n y) (events_of_actor n ys) (taken_by n x))
 
@@ -36,6 +49,13 @@ module _ {E R : Type 0} where
 
   taken_by-other : (p n a : ℕ) (e : E) (r : R) → n ≢ a → taken_by n (entry_by p a e r) ≡ []
   taken_by-other p n a e r other = grind (arith, nat_tests)
+
+  taken_by-note : (p n : ℕ) (e : E) (r : R) → taken_by n (note_by p e r) ≡ []
+  taken_by-note p n e r = grind (arith, nat_tests)
+
+  -- an entry that the actor does not take is none of its own
+  pub others-took : (n : ℕ) (xs : List (Entry E R)) (x : Entry E R) → taken_by n x ≡ [] → events_of_actor n xs ≡ events_of_actor n (xs ++ x ∷ [])
+  others-took n xs x none = sym (append-nil (events_of_actor n xs)) ∙ (ap (λ l. events_of_actor n xs ++ l) (sym none) ∙ sym (events_of_actor-snoc n xs x))
 
   module _ {S : Type 0} (goes : S → E → S → R → Type 0) where
     pub leads-snoc : (s t u : ℕ → S) (xs : List (Entry E R)) (x : Entry E R) → LeadsFrom goes s xs t → IsStep goes t x u → LeadsFrom goes s (xs ++ x ∷ []) u
@@ -48,16 +68,6 @@ module _ {E R : Type 0} where
       λ n. refl,
     )
     leads-snoc s t u (y ∷ ys) x leads step = (leads.0, leads.1, leads-snoc leads.0 t u ys x leads.2 step)
-
-    -- the states, with one in another's place
-    abbrev put : (ℕ → S) → ℕ → S → ℕ → S
-    put t a x n = if n == a then x else t n
-
-    put-own : (t : ℕ → S) (a : ℕ) (x : S) → put t a x a ≡ x
-    put-own t a x = grind (arith, nat_tests, put)
-
-    put-other : (t : ℕ → S) (a : ℕ) (x : S) (n : ℕ) → n ≢ a → put t a x n ≡ t n
-    put-other t a x n other = grind (arith, nat_tests, put)
 
     not-within : (a n : ℕ) → (n < a) ⊎ (a + 1 ≤ n) → n ≢ a
     not-within a n other same = elim other [ inl h ↦ omega (arith, h, same) | inr h ↦ omega (arith, h, same) ]
@@ -108,11 +118,23 @@ module _ {E R : Type 0} where
                     }
                     | inr h ↦ let was' = k.actors n w h.1 in record {
                       of = was'.of;
-                      took = was'.took ∙ (sym (append-nil (events_of_actor n xs)) ∙ (ap (λ l. events_of_actor n xs ++ l) (sym (taken_by-other p n s.number s.event s.reply h.0)) ∙ sym (events_of_actor-snoc n xs (entry_of p s))));
+                      took = was'.took ∙ others-took n xs (entry_of p s) (taken_by-other p n s.number s.event s.reply h.0);
                       leaves = was'.leaves ∙ sym (put-other k.states s.number s.state n h.0);
                     }
                   ];
             }
+
+      -- an event that nobody takes
+      pub legal-note : (p : ℕ) (e : E) (r : R) (xs : List (Entry E R)) (tokens : List (Option (Token E (List (E × S))))) → IsLegal first goes events xs tokens → IsLegal first goes events (xs ++ note_by p e r ∷ []) tokens
+      legal-note p e r xs tokens k = record {
+        states = k.states;
+        leads = leads-snoc first k.states k.states xs (note_by p e r) k.leads (record { takers = λ n low high. absurd (omega (arith, high)); others = λ n other. refl });
+        actors = λ n w there. let old = k.actors n w there in record {
+          of = old.of;
+          took = old.took ∙ others-took n xs (note_by p e r) (taken_by-note p n e r);
+          leaves = old.leaves;
+        };
+      }
 
       -- nothing has happened
       pub legal-none : (tokens : List (Option (Token E (List (E × S))))) → ((n : ℕ) (m : Option (Token E (List (E × S)))) → slice_get tokens n ≡ Some m → m ≡ None) → IsLegal first goes events [] tokens
@@ -121,3 +143,9 @@ module _ {E R : Type 0} where
         leads = λ n. refl;
         actors = λ n m at. rw (none n m at) record { of = tt; took = refl; leaves = refl };
       }
+
+-- a booking fewer
+pub bookings-emptied : {E V : Type 0} (events : Shelves) (bookings : List (Option (Where (Mark E V)))) (n : ℕ) → AreBookings events bookings → AreBookings events (set bookings n None)
+bookings-emptied events bookings n are = record {
+  each = λ k p at. elim (get_set bookings n None k (Some p) at) as (λ _. Shows events p) [ inl h ↦ absurd (none-some p (sym h.1)) | inr h ↦ are.each k p h.1 ];
+}

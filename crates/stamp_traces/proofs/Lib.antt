@@ -1,4 +1,5 @@
 mod Lists
 mod Legal
-mod Passes
+mod PassLemmas
+mod MomentLemmas
 mod Counts

@@ -36,9 +36,20 @@ module _ {E R : Type 0} where
     pub each : (p : ℕ) (t : Option (Token ℕ (List (Entry E R)))) → slice_get passes p ≡ Some t → ShowsPass prefixes xs p t
     pub unborn : (p : ℕ) → length passes ≤ p → events_of_pass p xs ≡ []
 
-  -- the pass put this entry behind all that it had seen, and nothing else
+  -- the pass put this entry after all that it had seen, and nothing else
   pub record PassPuts (old : PassState E R) (x : Entry E R) (new : PassState E R) : Type 0 where
     pub number : new.number ≡ old.number
     pub between : List (Entry E R)
     pub behind : new.seen ≡ (old.seen ++ between) ++ x ∷ []
     pub once : events_of_pass old.number new.seen ≡ events_of_pass old.number old.seen ++ x.event ∷ []
+
+  -- the pass has seen more, none of which it put there
+  pub record PassLooks (old new : PassState E R) : Type 0 where
+    pub number : new.number ≡ old.number
+    pub begins : IsPrefixOf old.seen new.seen
+    pub own : events_of_pass old.number new.seen ≡ events_of_pass old.number old.seen
+
+  -- the entries begin with what the pass has seen, and all that it put there is among that
+  pub record PassStands (xs : List (Entry E R)) (v : PassState E R) : Type 0 where
+    pub begins : IsPrefixOf v.seen xs
+    pub own : events_of_pass v.number xs ≡ events_of_pass v.number v.seen

@@ -9,10 +9,20 @@ abbrev pub shown_by : {D X : Type 0} → Option (Token D (List X)) → List X
 shown_by None = []
 shown_by (Some t) = t.value
 
--- what a mark is about, if there is one
-abbrev pub subject_of : {D V : Type 0} → Option (Where (Mark D V)) → Option D
-subject_of None = None
-subject_of (Some p) = Some p.value.subject.value
+-- what is booked: the event, and the index of its mark
+pub record BookingState (E : Type 0) : Type 0 where
+  pub event : E
+  pub index : ℕ
+
+module _ {E V : Type 0} where
+  -- what is booked at this place
+  abbrev pub booked_by : Where (Mark E V) → BookingState E
+  booked_by p = record { event = p.value.subject.value; index = p.index }
+
+  -- the same, if there is a place
+  abbrev pub booking_of : Option (Where (Mark E V)) → Option (BookingState E)
+  booking_of None = None
+  booking_of (Some p) = Some (booked_by p)
 
 -- this token, or none, is the one at this place, or of its value
 pub record IsTokenAt {D V : Type 0} (tokens : List (Option (Token D V))) (at : ℕ) (token : Option (Token D V)) : Type 0 where

@@ -5,7 +5,7 @@ use Rattle.stamp_marks.specs.Tokens.{Token, IsOf}
 use Rattle.stamp_marks.specs.Histories.{state_after}
 use Rattle.stamp_marks.specs.declared.mark.Mark.{Mark}
 use Rattle.stamp_traces.specs.Cells.{CellStep}
-use Rattle.stamp_traces.specs.Shown.{shown_by}
+use Rattle.stamp_traces.specs.Shown.{shown_by, BookingState}
 use Rattle.stamp_traces.specs.declared.takers.Takers.{Takers}
 
 -- what a clause sees of an entry
@@ -29,6 +29,10 @@ module _ {E R : Type 0} where
   abbrev pub entry_by : ℕ → ℕ → E → R → Entry E R
   entry_by pass number event reply = record { pass = pass; takers = record { first = number; end = number + 1 }; event = event; reply = reply }
 
+  -- the entry of an event that a pass put there, and nobody takes
+  abbrev pub note_by : ℕ → E → R → Entry E R
+  note_by pass event reply = record { pass = pass; takers = record { first = 0; end = 0 }; event = event; reply = reply }
+
   -- the entry of a step
   abbrev pub entry_of : {S : Type 0} → ℕ → CellStep S E R → Entry E R
   entry_of pass s = entry_by pass s.number s.event s.reply
@@ -43,6 +47,10 @@ module _ {E R : Type 0} where
     abbrev pub LeadsFrom : (ℕ → S) → List (Entry E R) → (ℕ → S) → Type 0
     LeadsFrom s [] t = (n : ℕ) → s n ≡ t n
     LeadsFrom s (x ∷ xs) t = (u : ℕ → S) × IsStep s x u × LeadsFrom u xs t
+
+    -- the entries lead from the first states to some
+    abbrev pub Leads : (ℕ → S) → List (Entry E R) → Type 0
+    Leads first xs = (t : ℕ → S) × LeadsFrom first xs t
 
     -- the entries lead from the first states to some in which the actor is in this one
     abbrev pub LeavesAt : (ℕ → S) → List (Entry E R) → ℕ → S → Type 0
@@ -70,12 +78,12 @@ module _ {E R S : Type 0} where
 pub record AreBookings {E V : Type 0} (events : Shelves) (bookings : List (Option (Where (Mark E V)))) : Type 0 where
   pub each : (n : ℕ) (p : Where (Mark E V)) → slice_get bookings n ≡ Some (Some p) → Shows events p
 
--- what a clause sees of a journal: the entries, the index of each actor's token and of each pass's, the event that each actor is
--- booked for, how many are booked, and for how many entries there is room
+-- what a clause sees of a journal: the entries, the index of each actor's token and of each pass's, what is booked for each actor,
+-- how many entries are booked, and for how many there is room
 pub record JournalState (E R : Type 0) : Type 0 where
   pub entries : List (Entry E R)
   pub actors : List (Option ℕ)
   pub passes : List (Option ℕ)
-  pub bookings : List (Option E)
+  pub bookings : List (Option (BookingState E))
   pub booked : ℕ
   pub room : ℕ

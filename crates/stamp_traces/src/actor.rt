@@ -17,3 +17,17 @@ pub trait Actor<E, R>: Drop {
         ensures ok { IfOk result (λ r. goes self.old event.now self.new r) }
         ensures err { OnErr result (self.new ≡ self.old) };
 }
+
+/// An actor that takes some events with no reply of its own, and cannot refuse these.
+pub trait Timed<E, R>: Actor<E, R> {
+    /// The events that it takes so.
+    ghost is_moment: { E → Type 0 };
+
+    /// The reply of all of them.
+    ghost quiet: { R };
+
+    /// Takes such an event.
+    fn tick(&mut self, event: &E)
+        requires { is_moment event.now }
+        ensures { Self.goes self.old event.now self.new quiet };
+}

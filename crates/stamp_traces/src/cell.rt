@@ -1,14 +1,17 @@
 //! An actor in its cell.
-ghost use Rattle.std.specs.Prelude.{◌≡◌, ◌⊎◌, true, false, None, [], ◌∷◌, ◌++◌, IfOk, IfErr, OnErr, OnOk};
+ghost use Rattle.std.specs.Prelude.{◌≡◌, ◌≢◌, ◌⊎◌, ◌+◌, true, false, Some, None, [], ◌∷◌, ◌++◌, IfOk, IfErr, OnErr, OnOk, length};
 ghost use Rattle.boxcar.specs.Table.{Shows};
 ghost use Rattle.stamp_marks.specs.Tokens.{IsOf};
 ghost use Rattle.stamp_traces.specs.Cells.{stopped_cell};
+ghost use Rattle.stamp_traces.specs.Moments.{AddsStep};
 ghost use Rattle.stamp_traces.specs.Shown.{shown_by};
 
-use crate::actor::Actor;
+use crate::actor::{Actor, Timed};
 use crate::cell_step::CellStep;
 use crate::fault::TraceFault;
-use stamp_marks::{Booking, History, Identity, MarkList, Token, copy_of, with_event};
+use crate::moment_booking::MomentBooking;
+use crate::moment_step::MomentStep;
+use stamp_marks::{Booking, History, Identity, MarkList, Token, with_event};
 use std::alloc::Global;
 use std::marker::{Model, PhantomData};
 use std::snapshot::Snapshot;
@@ -93,9 +96,9 @@ impl<A: Actor<E, R>, E: Drop, R: Drop, K: Identity> Cell<A, E, R, K> {
     ) -> Result<CellStep<A, E, R, K>, TraceFault>
         requires named { marks.now ≡ K.events }
         requires booked { Shows marks.now booking × (booking.value.subject.value ≡ event) }
-        ensures step { IfOk result (λ s. (s.number ≡ self.old.number) × (s.event ≡ event) × (s.before ≡ self.old.events) × (s.index ≡ self.old.index) × (s.was ≡ self.old.actor) × (s.state ≡ self.new.actor)) }
+        ensures step { IfOk result (λ s. (s.number ≡ self.old.number) × (s.event ≡ event) × (s.before ≡ self.old.events) × (s.index ≡ self.old.index) × (s.was ≡ self.old.actor) × (s.state ≡ self.new.actor) × (s.mark ≡ booking.index)) }
         ensures goes { IfOk result (λ s. A.goes self.old.actor event self.new.actor s.reply) }
-        ensures ok { OnOk result ((self.new.number ≡ self.old.number) × (self.new.events ≡ self.old.events ++ (event, self.new.actor) ∷ []) × (self.new.halted ≡ false)) }
+        ensures ok { OnOk result ((self.new.number ≡ self.old.number) × (self.new.events ≡ self.old.events ++ (event, self.new.actor) ∷ []) × (self.new.index ≡ Some booking.index) × (self.new.halted ≡ false)) }
         ensures running { OnOk result (self.old.halted ≡ false) }
         ensures err { OnErr result ((self.new ≡ self.old) ⊎ (self.new.halted ≡ true)) }
     {
@@ -106,15 +109,9 @@ impl<A: Actor<E, R>, E: Drop, R: Drop, K: Identity> Cell<A, E, R, K> {
         let history = next_history(marks, &self.token, &event, &self.actor);
         let Some(after) = marks.fix(booking, history) else {
             self.halted = true;
-            return Err(TraceFault::Stopped);
+            return Err(TraceFault::Spent);
         };
-        let before = self.token.take();
-        let fixed = Some(after);
-        self.token = copy_of(&fixed);
-        let Some(after) = fixed else {
-            self.halted = true;
-            return Err(TraceFault::Stopped);
-        };
+        let before = self.token.replace(after.again());
         Ok(CellStep {
             number: self.number,
             event,
@@ -131,5 +128,46 @@ impl<A: Actor<E, R>, E: Drop, R: Drop, K: Identity> Cell<A, E, R, K> {
         ensures { self.new ≡ stopped_cell self.old }
     {
         self.halted = true;
+    }
+}
+
+impl<A: Timed<E, R>, E: Drop, R: Drop, K: Identity> Cell<A, E, R, K> {
+    /// Lets the actor take the event of a moment, fixes its history at one of the moment's marks, and adds its step to the moment's.
+    /// 52 where the cell is stopped, or its actor is not the one that takes the event next.
+    pub fn tick(
+        &mut self,
+        marks: &MarkList<E, History<E, A>>,
+        moment: &mut MomentBooking<A, E, R, K>,
+    ) -> Result<(), TraceFault>
+        requires named { marks.now ≡ K.events }
+        ensures step { OnOk result (AddsStep moment.old self.old moment.new self.new) }
+        ensures goes { OnOk result (A.goes self.old.actor moment.old.event self.new.actor A.quiet) }
+        ensures ok { OnOk result ((self.new.number ≡ self.old.number) × (self.new.events ≡ self.old.events ++ (moment.old.event, self.new.actor) ∷ []) × (self.new.halted ≡ false)) }
+        ensures running { OnOk result (self.old.halted ≡ false) }
+        ensures turn { OnOk result (self.old.number ≡ moment.old.takers.first + length moment.old.steps) }
+        ensures differ { IfErr result (λ e. e ≡ TraceFault.Stopped → (self.old.halted ≡ true) ⊎ ((self.old.number ≢ moment.old.takers.first + length moment.old.steps) ⊎ (moment.old.left ≡ 0))) }
+        ensures few { IfErr result (λ e. (e ≡ TraceFault.Stopped) ⊎ (e ≡ TraceFault.Spent)) }
+        ensures err { OnErr result (((self.new ≡ self.old) × (moment.new ≡ moment.old)) ⊎ (self.new.halted ≡ true)) }
+    {
+        if self.halted || !moment.is_next(self.number) {
+            return Err(TraceFault::Stopped);
+        }
+        let Some(booking) = moment.marks.pop() else {
+            return Err(TraceFault::Stopped);
+        };
+        self.actor.tick(&moment.event);
+        let history = next_history(marks, &self.token, &moment.event, &self.actor);
+        let Some(after) = marks.fix(booking, history) else {
+            self.halted = true;
+            return Err(TraceFault::Spent);
+        };
+        let before = self.token.replace(after.again());
+        moment.steps.push_reserved(MomentStep {
+            number: self.number,
+            before,
+            after,
+            state: Snapshot::of(&self.actor),
+        });
+        Ok(())
     }
 }

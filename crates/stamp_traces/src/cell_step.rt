@@ -25,7 +25,7 @@ impl<A: Actor<E, R>, E: Drop, R: Drop, K: Identity> Model for CellStep<A, E, R, 
 
     ghost Value = { specs.CellStep A E R };
 
-    ghost view = { λ s. record { number = s.number; event = s.event; reply = s.reply; before = shown_by s.before; index = index_of s.before; was = state_after (A.first K.numbers s.number) (shown_by s.before); state = s.state.value } };
+    ghost view = { λ s. record { number = s.number; event = s.event; reply = s.reply; before = shown_by s.before; index = index_of s.before; was = state_after (A.first K.numbers s.number) (shown_by s.before); state = s.state.value; mark = s.after.mark.index } };
 
     ghost invariant = { λ s. IsOf s.before K.events × Shows K.events s.after.mark × (s.after.value ≡ shown_by s.before ++ (s.event, s.state.value) ∷ []) × A.goes (state_after (A.first K.numbers s.number) (shown_by s.before)) s.event s.state.value s.reply × (s.after.mark.value.subject.value ≡ s.event) };
 }

@@ -14,4 +14,7 @@ pub enum TraceFault {
     /// 52: the cell is stopped for good, or two tokens differ.
     #[error("the cell is stopped")]
     Stopped,
+    /// 52: a mark that was booked has a value already, which nothing makes happen.
+    #[error("the mark is spent")]
+    Spent,
 }

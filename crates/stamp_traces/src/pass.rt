@@ -1,4 +1,6 @@
 //! What one thread knows of the trace.
+ghost use Rattle.std.specs.Prelude.{◌≡◌};
+
 use crate::entry::Entry;
 use stamp_marks::{Identity, Prefix, Token};
 use std::marker::{Model, PhantomData};
@@ -21,4 +23,13 @@ impl<E, R, K: Identity> Model for Pass<E, R, K> {
     ghost view = { λ p. record { number = p.number; seen = shown_by p.token; index = index_of p.token } };
 
     ghost invariant = { λ p. IsOf p.token K.prefixes };
+}
+
+impl<E, R, K: Identity> Pass<E, R, K> {
+    /// Its number, from 0 on.
+    pub fn number(&self) -> usize
+        ensures { result ≡ self.now.number }
+    {
+        self.number
+    }
 }

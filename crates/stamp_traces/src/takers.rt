@@ -19,4 +19,11 @@ impl Takers {
             end: number + 1,
         }
     }
+
+    /// No actor.
+    pub fn nobody() -> Takers
+        ensures { result ≡ record { first = 0; end = 0 } }
+    {
+        Takers { first: 0, end: 0 }
+    }
 }

@@ -1,4 +1,4 @@
-use Rattle.stamp_traces.proofs.Passes.{passes-admit}
+use Rattle.stamp_traces.proofs.PassLemmas.{passes-admit}
 use Rattle.stamp_traces.proofs.journal.Journal.admit.Goals as goal
 
 pub invariant_of-self-2 : goal.invariant_of-self-2

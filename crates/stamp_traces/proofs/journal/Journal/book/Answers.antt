@@ -1,14 +1,13 @@
-use Rattle.std.proofs.Common.{◌+◌, List, Some, set, ap, ◌∙◌}
+use Rattle.std.proofs.Common.{◌+◌, List, Some, ap}
+use Rattle.std.proofs.lemmas.List.{map-set}
 use Rattle.std.specs.Prelude.{map, Option}
 use Rattle.stamp_marks.specs.Tokens.{index_of}
-use Rattle.stamp_traces.specs.Shown.{subject_of}
+use Rattle.stamp_traces.specs.Shown.{BookingState, booking_of}
 use Rattle.stamp_traces.specs.Traces.{JournalState}
-use Rattle.stamp_traces.proofs.Lists.{map-set}
 use Rattle.stamp_traces.proofs.journal.Journal.book.Goals as goal
 
 pub returns-clause-ok : goal.returns-clause-ok
 returns-clause-ok g c =
     let i = c.self.inside in
-    let state : List (Option g.row.E.Denot) → JournalState g.row.E.Denot g.row.R.Denot = λ l. record { entries = i.entries.items; actors = map index_of i.actors.items; passes = map index_of i.passes.items; bookings = l; booked = i.booked + 1; room = i.room } in
-    rw (← c.self.view_is)
-    (ap state (map-set subject_of i.bookings.items c.args.number (Some c.place.result) ∙ ap (λ (d : g.row.E.Denot). set (map subject_of i.bookings.items) c.args.number (Some d)) (ap (λ p. p.value.subject.value) c.place.ensures ∙ c.in-Ok-book.ensures.1)))
+    let state : List (Option (BookingState g.row.E.Denot)) → JournalState g.row.E.Denot g.row.R.Denot = λ l. record { entries = i.entries.items; actors = map index_of i.actors.items; passes = map index_of i.passes.items; bookings = l; booked = i.booked + 1; room = i.room } in
+    rw (← c.self.view_is, c.place.ensures) (ap state (map-set booking_of i.bookings.items c.args.number (Some _)))

@@ -1,8 +1,9 @@
-use Rattle.std.proofs.Common.{◌≡◌, None, Some, inl, inr, sym, arith}
+use Rattle.std.proofs.Common.{◌≡◌, None, Some, inl, inr, refl, sym, arith}
 use Rattle.std.proofs.lemmas.Option.{none-some}
-use Rattle.stamp_traces.proofs.Lists.{get_snoc}
+use Rattle.stamp_traces.specs.Shown.{booking_of}
+use Rattle.stamp_traces.proofs.Lists.{get_snoc, none-seen}
 use Rattle.stamp_traces.proofs.Legal.{legal-none}
-use Rattle.stamp_traces.proofs.Passes.{passes-none}
+use Rattle.stamp_traces.proofs.PassLemmas.{passes-none}
 use Rattle.stamp_traces.proofs.journal.Journal.new.Goals as goal
 
 pub loop-i-preserved : goal.loop-i-preserved
@@ -19,3 +20,6 @@ invariant_of-result g c = (
   omega (arith, c.in_ok-entries.ensures.len),
   c.in_ok-entries.ensures.capacity,
 )
+
+pub returns-clause-none : goal.returns-clause-none
+returns-clause-none g c = λ n b. none-seen booking_of c.loop-i.bookings.items refl (λ m p at. c.loop-i.invariant.bookings m p at) n b

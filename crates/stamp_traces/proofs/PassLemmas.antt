@@ -5,9 +5,10 @@ use Rattle.std.proofs.lemmas.Bool.Decides.{nat_tests}
 use Rattle.std.proofs.lemmas.Option.{none-some}
 use Rattle.boxcar.specs.Table.{Shelves, Shows}
 use Rattle.stamp_marks.specs.Tokens.{Token, IsOf}
-use Rattle.stamp_traces.specs.Shown.{shown_by}
+use Rattle.stamp_traces.specs.Shown.{shown_by, IsTokenAt}
 use Rattle.stamp_traces.specs.Traces.{Entry}
-use Rattle.stamp_traces.specs.Passes.{IsPrefixOf, put_by, events_of_pass, ShowsPass, ArePasses, PassState, PassPuts}
+use Rattle.stamp_traces.specs.Passes.{IsPrefixOf, put_by, events_of_pass, ShowsPass, ArePasses, PassState, PassPuts, PassStands}
+use Rattle.stamp_traces.proofs.Legal.{same_shown}
 use Rattle.stamp_traces.proofs.Lists.{get_set, get_snoc}
 
 module _ {E R : Type 0} where
@@ -49,14 +50,33 @@ module _ {E R : Type 0} where
         others-snoc n xs x (λ same. absurd (omega (arith, within, low, same))) ∙ k.unborn n low;
   }
 
+  -- a pass has seen all
+  pub passes-look : (prefixes : Shelves) (xs : List (Entry E R)) (passes : List (Option (Token ℕ (List (Entry E R))))) (p : ℕ) (m : Option (Token ℕ (List (Entry E R)))) →
+      ArePasses prefixes xs passes → IsOf m prefixes → shown_by m ≡ xs → ArePasses prefixes xs (set passes p m)
+  passes-look prefixes xs passes p m k of shows = record {
+    each = λ n w there.
+        elim (get_set passes p m n w there) as (λ _. ShowsPass prefixes xs n w) [
+          | inl h ↦ rw (h.0, h.1) record { of = of; begins = ([], sym (append-nil (shown_by m) ∙ shows)); own = ap (events_of_pass p) (sym shows) }
+          | inr h ↦ k.each n w h.1
+        ];
+    unborn = λ n beyond. k.unborn n (rw (length-set passes p m) at beyond);
+  }
+
+  -- a pass whose token is the one that is kept of it
+  pub stands : (prefixes : Shelves) (xs : List (Entry E R)) (passes : List (Option (Token ℕ (List (Entry E R))))) (p : ℕ) (t : Option (Token ℕ (List (Entry E R)))) (i : Option ℕ) →
+      ArePasses prefixes xs passes → IsTokenAt passes p t → PassStands xs (record { number = p; seen = shown_by t; index = i })
+  stands prefixes xs passes p t i k at =
+      let shown = k.each p at.there at.found in
+      let same = same_shown t at.there at.same in
+      record { begins = rw (← same) at shown.begins; own = rw (← same) at shown.own }
+
   -- what the pass did
-  pub puts : (xs : List (Entry E R)) (v w : PassState E R) (x : Entry E R) → w.number ≡ v.number → x.pass ≡ v.number → IsPrefixOf v.seen xs
-      → events_of_pass v.number xs ≡ events_of_pass v.number v.seen → w.seen ≡ xs ++ x ∷ [] → PassPuts v x w
-  puts xs v w x number own starts none shows = record {
+  pub puts : (xs : List (Entry E R)) (v w : PassState E R) (x : Entry E R) → w.number ≡ v.number → x.pass ≡ v.number → PassStands xs v → w.seen ≡ xs ++ x ∷ [] → PassPuts v x w
+  puts xs v w x number own stands shows = record {
     number = number;
-    between = starts.0;
-    behind = shows ∙ ap (λ l. l ++ x ∷ []) starts.1;
-    once = ap (events_of_pass v.number) shows ∙ (events_of_pass-snoc v.number xs x ∙ (ap (λ l. events_of_pass v.number xs ++ l) (put_by-own v.number x own) ∙ ap (λ l. l ++ x.event ∷ []) none));
+    between = stands.begins.0;
+    behind = shows ∙ ap (λ l. l ++ x ∷ []) stands.begins.1;
+    once = ap (events_of_pass v.number) shows ∙ (events_of_pass-snoc v.number xs x ∙ (ap (λ l. events_of_pass v.number xs ++ l) (put_by-own v.number x own) ∙ ap (λ l. l ++ x.event ∷ []) stands.own));
   }
 
   -- a new pass has seen nothing
