@@ -1,0 +1,4 @@
+pub mod Numbers
+pub mod Inputs
+pub mod Actors
+pub mod Steps
