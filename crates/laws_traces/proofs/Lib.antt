@@ -1,0 +1,9 @@
+pub mod Sizes
+pub mod Places
+pub mod Untaken
+pub mod Moments
+pub mod EntrySteps
+pub mod FirstActors
+pub mod Growing
+pub mod Reaching
+pub mod Observations
