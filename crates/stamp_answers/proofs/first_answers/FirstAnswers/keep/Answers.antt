@@ -1,0 +1,7 @@
+use Rattle.std.proofs.Common.{◌∙◌, ap}
+use Rattle.stamp_answers.specs.FirstAnswers.{kept_at, pair_of}
+use Rattle.stamp_answers.proofs.PairLemmas.{not_at}
+use Rattle.stamp_answers.proofs.first_answers.FirstAnswers.keep.Goals as goal
+
+pub returns-clause-elsewhere : goal.returns-clause-elsewhere
+returns-clause-elsewhere c = λ k differ. c.in_ok-insert.ensures.updates.2 (pair_of k) (not_at c.args.key k differ) ∙ ap (λ numbers. kept_at numbers k) c.self.view_is

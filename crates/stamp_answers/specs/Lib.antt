@@ -1,0 +1,5 @@
+pub mod Keys
+pub mod Answers
+pub mod Requests
+pub mod Tickets
+pub mod FirstAnswers
