@@ -1,0 +1,5 @@
+pub mod Answers
+pub mod Bookings
+pub mod Logs
+pub mod Passes
+pub mod Traces
